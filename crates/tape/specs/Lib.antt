@@ -1,0 +1,5 @@
+pub mod Codes
+pub mod Format
+pub mod Reading
+pub mod Writing
+pub mod Sound

@@ -1,0 +1,4 @@
+pub mod fault;
+pub mod reader;
+pub mod record;
+pub mod writer;

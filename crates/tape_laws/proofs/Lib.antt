@@ -1,0 +1,4 @@
+pub mod Back
+pub mod Copies
+pub mod Filling
+pub mod Keepings
