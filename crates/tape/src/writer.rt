@@ -163,7 +163,7 @@ impl<'a> Writer<'a> {
     pub fn end(&self) -> End
         ensures { λ r. ⌜ r ≡ now (self .entry) .end ⌝ }
     {
-        self.end
+        self.end // a copy
     }
 
     /// One record more, or a refusal that leaves the buffer and the end as they were.

@@ -1,0 +1,8 @@
+mod Forms
+mod HexPairs
+mod Numerals
+mod PriceParts
+mod Printing
+mod RefusalParts
+mod RoundTrips
+mod Worked

@@ -1,0 +1,13 @@
+use mathlib.Core.Path.{_≡_}
+use mathlib.Core.List.{_++_}
+use lib.ListN.{length}
+use Rattle.std.specs.Of.Vec.{vec-items}
+use Rattle.std.specs.Options.{mapped}
+use Rattle.words.specs.SymbolText.{allForms}
+use Rattle.words.proofs.symbols.read_forms.Given as given
+
+abbrev pub Inv-loop-rest : given.InvT-loop-rest
+Inv-loop-rest l = mapped (λ bs. vec-items (l .symbol) ++ bs) (allForms (l .rest)) ≡ allForms (l .text)
+
+abbrev pub μ-loop-rest : given.MeasureT-loop-rest
+μ-loop-rest l = length (l .rest)
