@@ -8,7 +8,8 @@ use words::read_bytes;
 use words::read_number;
 use words::read_symbol;
 
-pub const CALLS: &str = "limitday [SCRIPT]   plays the calls of a script, or of standard input, one to a line
+pub const CALLS: &str =
+    "limitday [SCRIPT]   plays the calls of a script, or of standard input, one to a line
 
   tape HEX                                 make these bytes the current tape
   tape-file PATH                           make a file's bytes the current tape
@@ -51,7 +52,8 @@ impl Verb {
             Verb::TapeFile => "tape-file PATH",
             Verb::Records => "records",
             Verb::Start => "start CAPACITY",
-            Verb::Write => "write trade TIME PRICE VOLUME SYMBOL or write quote TIME BID OFFER SYMBOL",
+            Verb::Write =>
+                "write trade TIME PRICE VOLUME SYMBOL or write quote TIME BID OFFER SYMBOL",
             Verb::Written => "written",
         }
     }
@@ -107,7 +109,12 @@ fn read_trade(heap: Global, words: &mut SplitWhitespace<'_>) -> Result<Option<Dr
     let symbol = symbol(heap, words)?;
     match (numbers, symbol) {
         ((Some(time), Some(price), Some(volume)), Some(symbol)) => {
-            Ok(Some(Draft::Trade { time, price, volume, symbol }))
+            Ok(Some(Draft::Trade {
+                time,
+                price,
+                volume,
+                symbol,
+            }))
         }
         _ => Ok(None),
     }
@@ -118,13 +125,21 @@ fn read_quote(heap: Global, words: &mut SplitWhitespace<'_>) -> Result<Option<Dr
     let symbol = symbol(heap, words)?;
     match (numbers, symbol) {
         ((Some(time), Some(bid), Some(offer)), Some(symbol)) => {
-            Ok(Some(Draft::Quote { time, bid, offer, symbol }))
+            Ok(Some(Draft::Quote {
+                time,
+                bid,
+                offer,
+                symbol,
+            }))
         }
         _ => Ok(None),
     }
 }
 
-fn read_write<'a>(heap: Global, words: &mut SplitWhitespace<'a>) -> Result<Option<Call<'a>>, AllocError> {
+fn read_write<'a>(
+    heap: Global,
+    words: &mut SplitWhitespace<'a>,
+) -> Result<Option<Call<'a>>, AllocError> {
     let draft = match words.next() {
         Some("trade") => read_trade(heap, words)?,
         Some("quote") => read_quote(heap, words)?,
@@ -136,7 +151,10 @@ fn read_write<'a>(heap: Global, words: &mut SplitWhitespace<'a>) -> Result<Optio
     }
 }
 
-fn read_tape<'a>(heap: Global, words: &mut SplitWhitespace<'a>) -> Result<Option<Call<'a>>, AllocError> {
+fn read_tape<'a>(
+    heap: Global,
+    words: &mut SplitWhitespace<'a>,
+) -> Result<Option<Call<'a>>, AllocError> {
     let Some(word) = words.next() else {
         return Ok(None);
     };
@@ -155,7 +173,11 @@ fn read_file<'a>(words: &mut SplitWhitespace<'a>) -> Option<Call<'a>> {
 }
 
 // The call that the words behind its verb make, if they have its form.
-pub fn read_call<'a>(heap: Global, verb: Verb, words: &mut SplitWhitespace<'a>) -> Result<Option<Call<'a>>, AllocError> {
+pub fn read_call<'a>(
+    heap: Global,
+    verb: Verb,
+    words: &mut SplitWhitespace<'a>,
+) -> Result<Option<Call<'a>>, AllocError> {
     let call = match verb {
         Verb::Tape => read_tape(heap, words)?,
         Verb::TapeFile => read_file(words),

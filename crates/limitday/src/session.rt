@@ -34,25 +34,52 @@ pub struct Session {
 }
 
 fn tape_refusal(fault: TapeFault) -> Refusal {
-    Refusal { code: fault.code(), place: fault.place() }
+    Refusal {
+        code: fault.code(),
+        place: fault.place(),
+    }
 }
 
 fn write_refusal(fault: WriteFault) -> Refusal {
-    Refusal { code: fault.code(), place: fault.place() }
+    Refusal {
+        code: fault.code(),
+        place: fault.place(),
+    }
 }
 
-fn print_record<W: Write>(out: &mut W, line: u64, place: usize, record: Record<'_>) -> io::Result<()> {
+fn print_record<W: Write>(
+    out: &mut W,
+    line: u64,
+    place: usize,
+    record: Record<'_>,
+) -> io::Result<()> {
     match record {
-        Record::Trade { time, price, volume, symbol } => {
+        Record::Trade {
+            time,
+            price,
+            volume,
+            symbol,
+        } => {
             let price = Price(price);
             let symbol = Symbol(symbol);
-            writeln!(out, "{line}: record at {place} trade {time} {price} {volume} {symbol}")
+            writeln!(
+                out,
+                "{line}: record at {place} trade {time} {price} {volume} {symbol}"
+            )
         }
-        Record::Quote { time, bid, offer, symbol } => {
+        Record::Quote {
+            time,
+            bid,
+            offer,
+            symbol,
+        } => {
             let bid = Price(bid);
             let offer = Price(offer);
             let symbol = Symbol(symbol);
-            writeln!(out, "{line}: record at {place} quote {time} {bid} {offer} {symbol}")
+            writeln!(
+                out,
+                "{line}: record at {place} quote {time} {bid} {offer} {symbol}"
+            )
         }
     }
 }
@@ -92,11 +119,31 @@ fn print_records<W: Write>(out: &mut W, line: u64, bytes: &[u8]) -> io::Result<(
 // Appends a draft at the end of the tape in a buffer.
 fn append(buffer: &mut [u8], end: End, draft: &Draft) -> Result<End, WriteFault> {
     let record = match draft {
-        Draft::Trade { time, price, volume, symbol } => {
-            Record::Trade { time: *time, price: *price, volume: *volume, symbol: symbol.as_slice() }
+        Draft::Trade {
+            time,
+            price,
+            volume,
+            symbol,
+        } => {
+            Record::Trade {
+                time: *time,
+                price: *price,
+                volume: *volume,
+                symbol: symbol.as_slice(),
+            }
         }
-        Draft::Quote { time, bid, offer, symbol } => {
-            Record::Quote { time: *time, bid: *bid, offer: *offer, symbol: symbol.as_slice() }
+        Draft::Quote {
+            time,
+            bid,
+            offer,
+            symbol,
+        } => {
+            Record::Quote {
+                time: *time,
+                bid: *bid,
+                offer: *offer,
+                symbol: symbol.as_slice(),
+            }
         }
     };
     let mut writer = Writer::resume(buffer, end);
@@ -106,7 +153,12 @@ fn append(buffer: &mut [u8], end: End, draft: &Draft) -> Result<End, WriteFault>
 
 impl Session {
     pub fn new(heap: Global) -> Session {
-        Session { heap, tape: None, buffer: Vec::new(heap), end: None }
+        Session {
+            heap,
+            tape: None,
+            buffer: Vec::new(heap),
+            end: None,
+        }
     }
 
     fn take_tape<W: Write>(&mut self, out: &mut W, line: u64, bytes: Vec<u8>) -> io::Result<()> {
@@ -116,7 +168,13 @@ impl Session {
     }
 
     // A file that cannot be read is told on standard error too, and leaves the tape as it was.
-    fn take_file<W: Write>(&mut self, rt: &LibcRuntime, out: &mut W, line: u64, path: &str) -> io::Result<()> {
+    fn take_file<W: Write>(
+        &mut self,
+        rt: &LibcRuntime,
+        out: &mut W,
+        line: u64,
+        path: &str,
+    ) -> io::Result<()> {
         match fs::read(rt, path) {
             Ok(bytes) => self.take_tape(out, line, bytes),
             Err(error) => {
@@ -153,7 +211,10 @@ impl Session {
 
     fn write<W: Write>(&mut self, out: &mut W, line: u64, draft: Draft) -> io::Result<()> {
         let Some(end) = self.end else {
-            return writeln!(out, "{line}: error: expected a started tape before this call");
+            return writeln!(
+                out,
+                "{line}: error: expected a started tape before this call"
+            );
         };
         match append(&mut self.buffer, end, &draft) {
             Ok(end) => {
@@ -167,7 +228,10 @@ impl Session {
 
     fn finish<W: Write>(&mut self, out: &mut W, line: u64) -> io::Result<()> {
         let Some(end) = self.end else {
-            return writeln!(out, "{line}: error: expected a started tape before this call");
+            return writeln!(
+                out,
+                "{line}: error: expected a started tape before this call"
+            );
         };
         let Some(bytes) = self.buffer.as_slice().get(0..end.place()) else {
             return Ok(());
@@ -178,7 +242,13 @@ impl Session {
         Ok(())
     }
 
-    fn answer<W: Write>(&mut self, rt: &LibcRuntime, out: &mut W, line: u64, call: Call<'_>) -> io::Result<()> {
+    fn answer<W: Write>(
+        &mut self,
+        rt: &LibcRuntime,
+        out: &mut W,
+        line: u64,
+        call: Call<'_>,
+    ) -> io::Result<()> {
         match call {
             Call::Tape(bytes) => self.take_tape(out, line, bytes),
             Call::TapeFile(path) => self.take_file(rt, out, line, path),
@@ -191,7 +261,13 @@ impl Session {
 }
 
 // Answers one line of a script. A blank line and a comment have no answer.
-pub fn play_line<W: Write>(rt: &LibcRuntime, out: &mut W, session: &mut Session, line: u64, bytes: &[u8]) -> io::Result<()> {
+pub fn play_line<W: Write>(
+    rt: &LibcRuntime,
+    out: &mut W,
+    session: &mut Session,
+    line: u64,
+    bytes: &[u8],
+) -> io::Result<()> {
     let Ok(text) = from_utf8(bytes) else {
         return writeln!(out, "{line}: error: expected text in UTF-8");
     };
@@ -203,7 +279,10 @@ pub fn play_line<W: Write>(rt: &LibcRuntime, out: &mut W, session: &mut Session,
         return Ok(());
     }
     let Some(verb) = Verb::named(first) else {
-        return writeln!(out, "{line}: error: expected a call that limitday --help lists");
+        return writeln!(
+            out,
+            "{line}: error: expected a call that limitday --help lists"
+        );
     };
     match read_call(rt.alloc(), verb, &mut words)? {
         Some(call) => session.answer(rt, out, line, call),

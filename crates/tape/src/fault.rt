@@ -55,7 +55,7 @@ pub impl From<RecordFault> for WriteFault as WriteFromRecord {
 }
 
 impl Flaw {
-    pub(super) fn code(&self) -> u8
+    pub fn code(&self) -> u8
         ensures { λ r. ⌜ r ≡ flawNumber (now (self .entry)) ⌝ }
     {
         match self {

@@ -8,12 +8,35 @@ mod tests {
 
     // A trade at 55,770,000 ms, 38,125 points, volume 1, symbol NK, behind the version byte.
     const WORKED: [u8; 18] = [
-        0x01, 0x00, 0x0F, 0x01, 0x03, 0x52, 0xFB, 0x90, 0x00, 0x3A, 0x2C, 0x94, 0x00, 0x00, 0x00, 0x01, 0x4E, 0x4B,
+        0x01,
+        0x00,
+        0x0F,
+        0x01,
+        0x03,
+        0x52,
+        0xFB,
+        0x90,
+        0x00,
+        0x3A,
+        0x2C,
+        0x94,
+        0x00,
+        0x00,
+        0x00,
+        0x01,
+        0x4E,
+        0x4B,
     ];
+
     const UNTOUCHED: u8 = 0xAA;
 
     fn worked() -> Record<'static> {
-        Record::Trade { time: 55_770_000, price: 3_812_500, volume: 1, symbol: b"NK" }
+        Record::Trade {
+            time: 55_770_000,
+            price: 3_812_500,
+            volume: 1,
+            symbol: b"NK",
+        }
     }
 
     // How many records a tape has, or a refusal's code with its sign turned.
@@ -51,7 +74,12 @@ mod tests {
 
     // How many records of 25 bytes a buffer takes, and the code that the next one gets.
     fn fill(buffer: &mut [u8], most: u32) -> (u32, u8) {
-        let item = Record::Quote { time: 0, bid: 1, offer: 20_000_000, symbol: b"0123456789" };
+        let item = Record::Quote {
+            time: 0,
+            bid: 1,
+            offer: 20_000_000,
+            symbol: b"0123456789",
+        };
         let mut writer = Writer::start(buffer);
         for taken in 0..most {
             if let Err(fault) = writer.append(&item) {

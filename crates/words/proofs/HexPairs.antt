@@ -1,19 +1,17 @@
 -- Bytes in hex, pair after pair.
 use mathlib.Core.Path.{_≡_, refl, sym, ap, _∙_}
-use mathlib.Core.Bool.{Bool, true, false, cond}
+use mathlib.Core.Bool.{false}
 use mathlib.Core.List.{List, [], _∷_, _++_, append-assoc}
-use Prim.Native.Nat.{ℕ, _+_, _-_, _*_, _/_, _%_, _<_, _≤_}
-use native.Mathlib.Omega.{arith}
+use Prim.Native.Nat.{ℕ, _+_, _-_}
 use lib.Dec.{eqb}
 use lib.ListN.{length, getD, take, drop}
 use Rattle.std.proofs.shelf.Lists.{take-rest}
 use Rattle.std.proofs.shelf.Tests.{ne-eqb, true≢false}
-use Rattle.std.proofs.shelf.Ways.{tells}
 use Rattle.std.specs.declared.option.Option.{Option}
 use Rattle.std.specs.declared.option.Option.the-variants.{Some, None}
 use Rattle.std.specs.Options.{mapped}
 use Rattle.std.specs.shelf.Lists.{joined}
-use Rattle.words.specs.HexText.{bytesText, hexByte, hexValue, hexDigit, onto, pairText, pairs, readBytes}
+use Rattle.words.specs.HexText.{bytesText, hexByte, hexValue, onto, pairText, pairs, readBytes}
 
 pub after-onto : (xs : List ℕ) (b : ℕ) (o : Option (List ℕ)) → mapped (λ bs. (xs ++ (b ∷ [])) ++ bs) o ≡ mapped (λ bs. xs ++ bs) (onto (Some b) o)
 after-onto xs b None = refl

@@ -1,8 +1,6 @@
-mod Forms
-mod HexPairs
-mod Numerals
-mod PriceParts
-mod Printing
-mod RefusalParts
-mod RoundTrips
-mod Worked
+pub mod Forms
+pub mod HexPairs
+pub mod Numerals
+pub mod PriceParts
+pub mod Printing
+pub mod RefusalParts

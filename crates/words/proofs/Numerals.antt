@@ -1,14 +1,13 @@
 -- Whole numbers in decimal digits: what `parse` reads where there is no plus.
 use mathlib.Core.Path.{_≡_}
-use mathlib.Core.Bool.{Bool, true, false, cond}
-use mathlib.Core.List.{List, [], _∷_}
+use mathlib.Core.Bool.{Bool, true, false}
+use mathlib.Core.List.{List}
 use Prim.Native.Nat.{ℕ, _^_, _<_, _≤_}
 use native.Mathlib.Omega.{arith}
 use borrow.Author.Needs.{needs}
 use lib.ListN.{length, getD}
 use Rattle.std.proofs.shelf.Numerals.{Numerals, numerals-by-fold, tells-allDigits, parse-plain, value-short}
 use Rattle.std.proofs.shelf.Ways.{tells, not-from-decides}
-use Rattle.std.specs.declared.option.Option.the-variants.{Some, None}
 use Rattle.std.specs.declared.result.Result.{Result}
 use Rattle.std.specs.declared.result.Result.the-variants.{Ok, Err}
 use Rattle.std.specs.Numbers.{Converted}
@@ -28,7 +27,7 @@ converted limit bs (Err e) h = grind (arith, tells)
 pub reads : {E : Type 0} (k : ℕ) (bs : List ℕ) (r : Result ℕ E) → ReadsUnsigned k 10 bs r → (getD bs 0 0 ≡ 43 → ⊥) → okPart r ≡ numberBelow (2 ^ k) bs
 reads k bs r h plain = converted (2 ^ k) bs r (parse-plain own k bs r h plain)
 
--- no numeral begins with a plus
+-- a word that does not start with a plus has none in front
 pub plain : (word : List ℕ) (r : Bool) → Decides r (getD word 0 0 ≡ 43) → r ≡ false → getD word 0 0 ≡ 43 → ⊥
 plain word r d left = not-from-decides r d left
 

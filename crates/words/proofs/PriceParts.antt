@@ -1,19 +1,16 @@
 -- A price's text, split at its point.
 use mathlib.Core.Path.{_≡_, refl, sym, ap, _∙_}
-use mathlib.Core.Bool.{Bool, true, false, cond}
+use mathlib.Core.Bool.{false}
 use mathlib.Core.List.{List, [], _∷_, _++_}
-use mathlib.Core.Logic.{_⊎_, inl, inr}
-use Prim.Native.Nat.{ℕ, suc, _+_, _*_, _^_, _<_, _≤_}
+use Prim.Native.Nat.{ℕ, suc, _+_, _^_, _<_}
 use native.Mathlib.Omega.{arith}
-use borrow.Author.Needs.{needs}
 use lib.Dec.{eqb}
 use lib.ListN.{length, getD}
-use Rattle.std.proofs.shelf.Tests.{ne-eqb, eq-eqb, cond-false, cond-true}
+use Rattle.std.proofs.shelf.Tests.{ne-eqb, eq-eqb}
 use Rattle.std.proofs.shelf.Ways.{tells}
 use Rattle.std.specs.declared.option.Option.{Option}
 use Rattle.std.specs.declared.option.Option.the-variants.{Some, None}
-use Rattle.std.specs.shelf.Text.{allDigits}
-use Rattle.words.specs.Numeral.{isNumeral, valueAfter, number, numberBelow}
+use Rattle.words.specs.Numeral.{number, numberBelow}
 use Rattle.words.specs.Cuts.{before, after}
 use Rattle.words.specs.PriceText.{decimals, hundredths, priceOf, readPrice}
 use Rattle.words.proofs.Numerals.{short}

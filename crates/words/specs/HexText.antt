@@ -1,5 +1,5 @@
 -- Bytes as text, two hex digits each.
-use mathlib.Core.Bool.{Bool, cond}
+use mathlib.Core.Bool.{cond}
 use mathlib.Core.List.{List, [], _∷_}
 use Prim.Native.Nat.{ℕ, _+_, _-_, _*_, _/_, _%_}
 use lib.Chars.{codes}
@@ -19,6 +19,7 @@ hexValue c =
     cond (within 48 57 c) (Some (c - 48))
     (cond (within 65 70 c) (Some (c - 55)) (cond (within 97 102 c) (Some (c - 87)) None))
 
+-- the byte of a high and a low digit
 abbrev pub hexByte : Option ℕ → Option ℕ → Option ℕ
 hexByte None l = None
 hexByte (Some h) None = None
@@ -38,11 +39,13 @@ onto None bs = None
 onto (Some b) None = None
 onto (Some b) (Some bs) = Some (b ∷ bs)
 
+-- two digits to a byte, to the end of the text
 abbrev pub pairs : List ℕ → Option (List ℕ)
 pairs [] = Some []
 pairs (h ∷ []) = None
 pairs (h ∷ l ∷ rest) = onto (hexByte (hexValue h) (hexValue l)) (pairs rest)
 
+-- a dash (code 45) alone is the empty row, and the empty text is none
 abbrev pub readBytes : List ℕ → Option (List ℕ)
 readBytes [] = None
 readBytes (c ∷ []) = cond (eqb c 45) (Some []) None

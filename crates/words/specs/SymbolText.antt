@@ -1,6 +1,6 @@
 -- Symbols as text, byte by byte.
 use mathlib.Core.Bool.{Bool, cond, not, _&&_}
-use mathlib.Core.List.{List, [], _∷_, _++_}
+use mathlib.Core.List.{List, [], _∷_}
 use Prim.Native.Nat.{ℕ, zero, suc}
 use lib.Chars.{codes}
 use lib.Dec.{eqb}
@@ -42,6 +42,7 @@ abbrev pub firstForm : List ℕ → Option (ℕ × List ℕ)
 firstForm [] = None
 firstForm (c ∷ cs) = cond (eqb c 92) (escape cs) (cond (isPlain c) (Some (c, cs)) None)
 
+-- the first byte, before those that the text after it gives
 abbrev pub andThen : Option (ℕ × List ℕ) → (List ℕ → Option (List ℕ)) → Option (List ℕ)
 andThen None go = None
 andThen (Some p) go = onto (Some (p .0)) (go (p .1))
@@ -56,6 +57,7 @@ forms (suc n) (c ∷ cs) = andThen (firstForm (c ∷ cs)) (forms n)
 abbrev pub allForms : List ℕ → Option (List ℕ)
 allForms text = forms (length text) text
 
+-- a dash (code 45) alone is the empty symbol, and the empty text is no symbol
 abbrev pub readSymbol : List ℕ → Option (List ℕ)
 readSymbol [] = None
 readSymbol (c ∷ []) = cond (eqb c 45) (Some []) (allForms (c ∷ []))

@@ -11,6 +11,7 @@ use std::alloc::AllocError;
 use std::alloc::Global;
 use std::fmt;
 
+// Displayed in upper case.
 #[derive(Clone, Copy)]
 pub struct HexBytes<'a>(pub &'a [u8]);
 
@@ -68,6 +69,7 @@ pub(crate) fn hex_byte(high: u8, low: u8) -> Option<u8>
     }
 }
 
+// Digits of either case; `None` where the word is no bytes.
 pub fn read_bytes(heap: Global, word: &str) -> Result<Option<Vec<u8>>, AllocError>
     ensures { λ r. ⌜ made r (λ o. mapped vec-items o ≡ readBytes (now (word .entry))) ⌝ }
 {

@@ -3,7 +3,6 @@ mod hex;
 mod numbers;
 mod prices;
 mod refusals;
-mod rereads;
 mod symbols;
 
 pub use hex::HexBytes;
@@ -18,10 +17,6 @@ pub use refusals::NotRefusal;
 pub use refusals::Refusal;
 pub use refusals::RefusalDisplay;
 pub use refusals::RefusalFromStr;
-pub use rereads::reread_bytes;
-pub use rereads::reread_price;
-pub use rereads::reread_refusal;
-pub use rereads::reread_symbol;
 pub use symbols::Symbol;
 pub use symbols::SymbolDisplay;
 pub use symbols::read_symbol;

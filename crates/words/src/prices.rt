@@ -8,9 +8,11 @@ use crate::read_number;
 use std::fmt;
 use std::str::FromStr;
 
+// A number of hundredths. Displayed with two decimals, and read with none, one or two.
 #[derive(Clone, Copy)]
 pub struct Price(pub u32);
 
+// The word writes no price, or one past 32 bits.
 #[derive(Clone, Copy)]
 pub struct NotPrice;
 

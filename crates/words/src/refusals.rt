@@ -1,6 +1,5 @@
 // Refusals as text: `refused 12`, and with a place `refused 4 at 18`.
 ghost use mathlib.Core.Path.{_≡_};
-ghost use Prim.Native.Nat.{_^_};
 ghost use Rattle.std.specs.declared.option.Option.the-variants.{Some};
 ghost use Rattle.std.specs.Options.{mapped};
 ghost use Rattle.std.specs.Results.{okPart};
@@ -16,6 +15,7 @@ pub struct Refusal {
     pub place: Option<usize>,
 }
 
+// The text writes no refusal.
 #[derive(Clone, Copy)]
 pub struct NotRefusal;
 

@@ -44,12 +44,14 @@ fn write_form<W: fmt::Write>(f: &mut fmt::Formatter<W>, byte: u8) -> fmt::Result
     write!(f, "\\x{high}{low}")
 }
 
+// Visible ASCII but the backslash stands for itself.
 fn is_plain(byte: u8) -> bool
     ensures { λ r. ⌜ r ≡ isPlain byte ⌝ }
 {
     byte.is_ascii_graphic() && byte != b'\\'
 }
 
+// `None` where the word is no symbol. A symbol may have any length here.
 pub fn read_symbol(heap: Global, word: &str) -> Result<Option<Vec<u8>>, AllocError>
     ensures { λ r. ⌜ made r (λ o. mapped vec-items o ≡ readSymbol (now (word .entry))) ⌝ }
 {

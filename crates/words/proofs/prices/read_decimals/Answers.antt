@@ -1,4 +1,4 @@
-use mathlib.Core.Path.{sym, _∙_}
+use mathlib.Core.Path.{sym}
 use native.Mathlib.Omega.{arith}
 use Rattle.words.proofs.PriceParts.{two-digits, one-digit}
 use Rattle.words.proofs.prices.read_decimals.Needs as need

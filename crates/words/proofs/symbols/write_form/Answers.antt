@@ -1,5 +1,4 @@
-use mathlib.Core.Path.{sym, _∙_}
-use native.Mathlib.Omega.{arith}
+use mathlib.Core.Path.{sym}
 use borrow.Author.Needs.{needs}
 use Rattle.std.proofs.Writes.{put-is}
 use Rattle.std.proofs.shelf.Text.{encode-ascii}

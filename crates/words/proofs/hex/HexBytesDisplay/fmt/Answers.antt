@@ -1,5 +1,4 @@
 use mathlib.Core.Path.{refl, ap}
-use native.Mathlib.Omega.{arith}
 use Rattle.std.specs.Results.{isOk}
 use Rattle.words.specs.HexText.{pairText}
 use Rattle.words.proofs.HexPairs.{some-bytes}

@@ -4,22 +4,22 @@ ghost use Rattle.std.specs.declared.option.Option.the-variants.{Some};
 ghost use Rattle.std.specs.Of.Vec.{vec-items};
 ghost use Rattle.std.specs.Options.{mapped};
 ghost use Rattle.std.specs.Vec.{made};
-ghost use Rattle.words.specs.Examples.{Examples};
-ghost use Rattle.words.specs.Laws.{BytesReread, PricesReread, RefusalsReread, SymbolsReread};
-use crate::HexBytes;
-use crate::HexBytesDisplay;
-use crate::Price;
-use crate::PriceDisplay;
-use crate::PriceFromStr;
-use crate::Refusal;
-use crate::RefusalDisplay;
-use crate::RefusalFromStr;
-use crate::Symbol;
-use crate::SymbolDisplay;
-use crate::read_bytes;
-use crate::read_symbol;
+ghost use Rattle.words_laws.specs.Examples.{Examples};
+ghost use Rattle.words_laws.specs.Laws.{BytesReread, PricesReread, RefusalsReread, SymbolsReread};
 use std::alloc::AllocError;
 use std::alloc::Global;
+use words::HexBytes;
+use words::HexBytesDisplay;
+use words::Price;
+use words::PriceDisplay;
+use words::PriceFromStr;
+use words::Refusal;
+use words::RefusalDisplay;
+use words::RefusalFromStr;
+use words::Symbol;
+use words::SymbolDisplay;
+use words::read_bytes;
+use words::read_symbol;
 
 pub fn reread_price(heap: Global, price: Price) -> Result<Option<Price>, AllocError>
     ensures same { λ r. ⌜ made r (λ o. o ≡ Some price) ⌝ }

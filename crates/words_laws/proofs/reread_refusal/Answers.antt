@@ -1,9 +1,9 @@
 use mathlib.Core.Path.{ap, _∙_}
 use native.Mathlib.Omega.{arith}
 use borrow.Author.Needs.{needs}
 use Rattle.words.specs.RefusalText.{readRefusal}
-use Rattle.words.proofs.RoundTrips.{refusals, one-refusal}
-use Rattle.words.proofs.rereads.reread_refusal.Needs as need
+use Rattle.words_laws.proofs.RoundTrips.{refusals, one-refusal}
+use Rattle.words_laws.proofs.reread_refusal.Needs as need
 
 pub returns-in-Break-text : need.returns-in-Break-text
 returns-in-Break-text c = record { same = search needs; law = refusals }

@@ -1,9 +1,9 @@
 use mathlib.Core.Path.{ap, _∙_}
 use borrow.Author.Needs.{needs}
 use Rattle.std.proofs.shelf.Results.{made-weaker}
 use Rattle.words.specs.HexText.{readBytes}
-use Rattle.words.proofs.RoundTrips.{bytes, all-bytes}
-use Rattle.words.proofs.rereads.reread_bytes.Needs as need
+use Rattle.words_laws.proofs.RoundTrips.{bytes, all-bytes}
+use Rattle.words_laws.proofs.reread_bytes.Needs as need
 
 pub returns-in-Break-text : need.returns-in-Break-text
 returns-in-Break-text c = record { same = search needs; law = bytes }

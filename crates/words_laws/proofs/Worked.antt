@@ -1,6 +1,6 @@
 use mathlib.Core.Path.{refl}
 use Rattle.std.specs.Written.{digits}
-use Rattle.words.specs.Examples.{Examples}
+use Rattle.words_laws.specs.Examples.{Examples}
 
 pub examples : Examples
 unfolding digits

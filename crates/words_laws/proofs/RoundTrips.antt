@@ -6,7 +6,7 @@ use Prim.Native.Nat.{ℕ, suc, _+_, _*_, _/_, _%_, _^_, _<_, _≤_}
 use native.Mathlib.Omega.{arith}
 use borrow.Author.Needs.{needs}
 use lib.Chars.{codes}
-use lib.Dec.{eqb, ltb}
+use lib.Dec.{eqb}
 use lib.ListN.{length, getD, length-append}
 use Rattle.std.proofs.shelf.Decimals.{decimal-digit, decimal-some, digits-decimal, value-decimal}
 use Rattle.std.proofs.shelf.Numerals.{not-in-digits}
@@ -14,22 +14,22 @@ use Rattle.std.proofs.shelf.Tests.{eqb-true, eqb-false}
 use Rattle.std.proofs.shelf.Ways.{tells}
 use Rattle.std.specs.declared.option.Option.{Option}
 use Rattle.std.specs.declared.option.Option.the-variants.{Some, None}
-use Rattle.std.specs.Options.{Cases, mapped}
+use Rattle.std.specs.Options.{mapped}
 use Rattle.words.specs.declared.prices.Price.{Price}
 use Rattle.words.specs.declared.refusals.Refusal.{Refusal}
 use Rattle.std.specs.shelf.Lists.{All, joined}
 use Rattle.std.specs.shelf.Text.{allDigits}
 use Rattle.std.specs.Written.{decimal}
-use Rattle.words.specs.HexText.{hexByte, hexDigit, hexValue, onto, pairText, pairs, bytesText, readBytes}
-use Rattle.words.specs.Laws.{PricesReread, SymbolsReread, BytesReread, RefusalsReread}
+use Rattle.words.specs.HexText.{hexByte, hexDigit, hexValue, onto, pairText, pairs}
+use Rattle.words_laws.specs.Laws.{PricesReread, SymbolsReread, BytesReread, RefusalsReread}
 use Rattle.words.specs.Numeral.{valueAfter, number, numberBelow}
-use Rattle.words.specs.PriceText.{decimals, hundredths, priceOf, priceText, readPrice}
-use Rattle.words.specs.RefusalText.{placeOf, both, codeAndPlace, refusalText, readRefusal}
-use Rattle.words.specs.SymbolText.{isPlain, form, before-rest, firstForm, allForms, symbolText, readSymbol}
+use Rattle.words.specs.PriceText.{decimals, hundredths, priceOf}
+use Rattle.words.specs.RefusalText.{placeOf, both, refusalText}
+use Rattle.words.specs.SymbolText.{isPlain, form, before-rest, firstForm, allForms, readSymbol}
 use Rattle.words.proofs.Forms.{step, no-dash}
 use Rattle.words.proofs.Numerals.{own}
 use Rattle.words.proofs.PriceParts.{Lacks, before-split, after-split, before-whole, after-whole}
 use Rattle.words.proofs.RefusalParts.{after-front}
 
 -- decimals
 lacks : (c n : ℕ) → c < 48 → n < 2 ^ 64 → Lacks c (decimal n)

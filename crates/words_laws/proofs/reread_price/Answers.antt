@@ -1,10 +1,10 @@
 use mathlib.Core.Path.{ap, _∙_}
 use native.Mathlib.Omega.{arith}
 use borrow.Author.Needs.{needs}
 use Rattle.words.specs.PriceText.{readPrice}
-use Rattle.words.proofs.RoundTrips.{prices, one-price}
-use Rattle.words.proofs.Worked.{examples}
-use Rattle.words.proofs.rereads.reread_price.Needs as need
+use Rattle.words_laws.proofs.RoundTrips.{prices, one-price}
+use Rattle.words_laws.proofs.Worked.{examples}
+use Rattle.words_laws.proofs.reread_price.Needs as need
 
 pub returns-in-Break-text : need.returns-in-Break-text
 returns-in-Break-text c = record { same = search needs; law = prices; examples = examples }

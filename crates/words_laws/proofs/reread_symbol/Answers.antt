@@ -1,9 +1,9 @@
 use mathlib.Core.Path.{ap, _∙_}
 use borrow.Author.Needs.{needs}
 use Rattle.std.proofs.shelf.Results.{made-weaker}
 use Rattle.words.specs.SymbolText.{readSymbol}
-use Rattle.words.proofs.RoundTrips.{symbols, all-bytes}
-use Rattle.words.proofs.rereads.reread_symbol.Needs as need
+use Rattle.words_laws.proofs.RoundTrips.{symbols, all-bytes}
+use Rattle.words_laws.proofs.reread_symbol.Needs as need
 
 pub returns-in-Break-text : need.returns-in-Break-text
 returns-in-Break-text c = record { same = search needs; law = symbols }

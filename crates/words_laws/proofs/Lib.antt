@@ -1,0 +1,2 @@
+mod RoundTrips
+mod Worked
