@@ -137,6 +137,92 @@ class Tape:
         self.last = time
 
 
+# --- reference -----------------------------------------------------------------------------------
+
+WINDOW = 30_000
+WIDTH = 30_00
+
+
+def check_request(close, windows, sym=None):
+    if sym is not None and not 1 <= len(sym) <= 12:
+        raise Refused(8)
+    if not 30_000 <= close <= 86_400_000 or not 1 <= windows <= 20 or windows * WINDOW > close:
+        raise Refused(8)
+
+
+def in_window(records, close, w):
+    return [r for r in records if close - WINDOW * w <= r[2] < close]
+
+
+def cut(tape, close, w):
+    check_request(close, w)
+    records = parse(tape)
+    place = next((r[0] for r in records if r[2] >= close - WINDOW * w), len(tape))
+    return place, sum(15 + len(r[5]) for r in in_window(records, close, w))
+
+
+def mean(priced, divisor):
+    weights = sum(w for w, _ in priced)
+    return sum(w * v for w, v in priced) // (divisor * weights) if weights else None
+
+
+def reference(tape, sym, close, windows):
+    """Price, tier and number of windows."""
+    check_request(close, windows, sym)
+    records = [r for r in parse(tape) if r[5] == sym]
+    for w in range(1, windows + 1):
+        here = in_window(records, close, w)
+        trades = [(b, a) for _, kind, _, a, b, _ in here if kind == "trade"]
+        quotes = [(1 if b - a <= WIDTH else 0, a + b) for _, kind, _, a, b, _ in here if kind == "quote"]
+        for tier, price in ((1, mean(trades, 1)), (2, mean(quotes, 2))):
+            if price is not None:
+                return price, tier, w
+    raise Refused(9)
+
+
+# --- limit rules ---------------------------------------------------------------------------------
+
+class Rule:
+    """Figures in hundredths; offsets from the price P."""
+
+    def __init__(self, unit, offsets):
+        self.unit, self.offsets = unit, offsets
+
+    def offset(self, level, p):
+        if p % self.unit or not 1_000_00 <= p <= 200_000_00:
+            return None
+        offsets = self.offsets(p)
+        if offsets[-1] >= p or not 1 <= level <= len(offsets):
+            return None
+        return offsets[level - 1]
+
+    @property
+    def levels(self):
+        return len(self.offsets(100_000_00))
+
+
+PERCENTS = (8, 12, 16)
+
+
+def daily():
+    return Rule(10_00, lambda p: [p * k // 100 // 10_00 * 10_00 for k in PERCENTS])
+
+
+def quarterly(closes):
+    if len(closes) != 20 or any(not 1_000_00 <= c <= 200_000_00 for c in closes):
+        raise Refused(11)
+    total = sum(closes)
+    offsets = [total * k // (20 * 100 * 10_00) * 10_00 for k in PERCENTS]
+    return Rule(1_00, lambda p: offsets)
+
+
+def monthly(settlement):
+    if settlement % 5_00 or settlement > 200_000_00:
+        raise Refused(11)
+    offset = 1_000_00 if settlement <= 20_000_00 else 1_500_00 if settlement <= 30_000_00 else 2_000_00
+    return Rule(5_00, lambda p: [offset])
+
+
 # --- script --------------------------------------------------------------------------------------
 
 FORMS = {
@@ -146,13 +232,22 @@ FORMS = {
     "start": "start CAPACITY",
     "write": "write trade TIME PRICE VOLUME SYMBOL or write quote TIME BID OFFER SYMBOL",
     "written": "written",
+    "window": "window CLOSE W",
+    "reference": "reference SYMBOL CLOSE K",
+    "rule": "rule daily, rule quarterly C1 .. C20 or rule monthly SETTLEMENT",
+    "offset": "offset LEVEL PRICE",
 }
+
+
+NO_TAPE = "error: expected a tape before this call"
 
 
 class Session:
     def __init__(self):
         self.tape = None
         self.writer = None
+        self.reference = None
+        self.rule = None
 
     def take(self, tape):
         self.tape = tape
@@ -173,7 +268,7 @@ class Session:
         if verb == "records":
             () = words
             if self.tape is None:
-                return ["error: expected a tape before this call"]
+                return [NO_TAPE]
             rows = [self.row(*r) for r in parse(self.tape)]
             return rows or ["no records"]
         if verb == "start":
@@ -197,6 +292,34 @@ class Session:
                 return ["error: expected a started tape before this call"]
             self.tape = self.writer.bytes
             return [f"bytes {show_hex(self.tape)}"]
+        if verb == "window":
+            close, w = map(number, words)
+            if self.tape is None:
+                return [NO_TAPE]
+            return ["window at {} length {}".format(*cut(self.tape, close, w))]
+        if verb == "reference":
+            sym, close, k = words
+            request = symbol(sym), number(close), number(k)
+            if self.tape is None:
+                return [NO_TAPE]
+            self.reference = None
+            self.reference = found = reference(self.tape, *request)
+            return [f"reference {show_price(found[0])} tier {found[1]} windows {found[2]}"]
+        if verb == "rule":
+            kind, *figures = words
+            figures = [price(w) for w in figures]
+            if kind not in ("daily", "quarterly", "monthly") or len(figures) != {"daily": 0, "monthly": 1}.get(kind, len(figures)):
+                raise ScriptError
+            self.rule = None
+            self.rule = daily() if kind == "daily" else quarterly(figures) if kind == "quarterly" else monthly(*figures)
+            return [f"rule unit {show_price(self.rule.unit)} levels {self.rule.levels}"]
+        if verb == "offset":
+            level, p = words
+            level, p = number(level), price(p)
+            if self.rule is None:
+                return ["error: expected a rule before this call"]
+            offset = self.rule.offset(level, p)
+            return ["offset none" if offset is None else f"offset {show_price(offset)}"]
         raise AssertionError(verb)
 
     @staticmethod

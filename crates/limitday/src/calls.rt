@@ -1,12 +1,4 @@
-// The calls of a script, and how a line's words are read as one.
-use std::alloc::AllocError;
-use std::alloc::Global;
-use std::str::SplitWhitespace;
-use words::Price;
-use words::PriceFromStr;
-use words::read_bytes;
-use words::read_number;
-use words::read_symbol;
+// The calls of a script.
 
 pub const CALLS: &str =
     "limitday [SCRIPT]   plays the calls of a script, or of standard input, one to a line
@@ -18,6 +10,12 @@ pub const CALLS: &str =
   write trade TIME PRICE VOLUME SYMBOL     append a trade to the started tape
   write quote TIME BID OFFER SYMBOL        append a quote to it
   written                                  its bytes, which become the current tape
+  window CLOSE W                           the part of the current tape that holds window W
+  reference SYMBOL CLOSE K                 the reference price from at most K windows
+  rule daily                               the limit rule of the present text
+  rule quarterly C1 .. C20                 that of twenty closes
+  rule monthly SETTLEMENT                  that of a lead-month settlement
+  offset LEVEL PRICE                       how far the rule's limits lie from a price
 
 Prices are in points with at most two decimals, times in milliseconds. A blank line and one
 that begins with # are skipped.";
@@ -30,6 +28,10 @@ pub enum Verb {
     Start,
     Write,
     Written,
+    Window,
+    Reference,
+    Rule,
+    Offset,
 }
 
 impl Verb {
@@ -41,6 +43,10 @@ impl Verb {
             "start" => Some(Verb::Start),
             "write" => Some(Verb::Write),
             "written" => Some(Verb::Written),
+            "window" => Some(Verb::Window),
+            "reference" => Some(Verb::Reference),
+            "rule" => Some(Verb::Rule),
+            "offset" => Some(Verb::Offset),
             _ => None,
         }
     }
@@ -55,6 +61,10 @@ impl Verb {
             Verb::Write =>
                 "write trade TIME PRICE VOLUME SYMBOL or write quote TIME BID OFFER SYMBOL",
             Verb::Written => "written",
+            Verb::Window => "window CLOSE W",
+            Verb::Reference => "reference SYMBOL CLOSE K",
+            Verb::Rule => "rule daily, rule quarterly C1 .. C20 or rule monthly SETTLEMENT",
+            Verb::Offset => "offset LEVEL PRICE",
         }
     }
 }
@@ -76,6 +86,22 @@ pub enum Draft {
     },
 }
 
+// What a reference is asked of.
+#[derive(Drop)]
+pub struct Question {
+    pub symbol: Vec<u8>,
+    pub close: u32,
+    pub windows: u32,
+}
+
+// What a limit rule is made of.
+#[derive(Drop)]
+pub enum Figures {
+    Daily,
+    Quarterly(Vec<u32>),
+    Monthly(u32),
+}
+
 #[derive(Drop)]
 pub enum Call<'a> {
     Tape(Vec<u8>),
@@ -84,110 +110,8 @@ pub enum Call<'a> {
     Start(u32),
     Write(Draft),
     Written,
-}
-
-fn number(words: &mut SplitWhitespace<'_>) -> Option<u32> {
-    read_number(words.next()?)
-}
-
-fn price(words: &mut SplitWhitespace<'_>) -> Option<u32> {
-    match words.next()?.parse::<Price>() {
-        Ok(Price(price)) => Some(price),
-        Err(_) => None,
-    }
-}
-
-fn symbol(heap: Global, words: &mut SplitWhitespace<'_>) -> Result<Option<Vec<u8>>, AllocError> {
-    match words.next() {
-        Some(word) => read_symbol(heap, word),
-        None => Ok(None),
-    }
-}
-
-fn read_trade(heap: Global, words: &mut SplitWhitespace<'_>) -> Result<Option<Draft>, AllocError> {
-    let numbers = (number(words), price(words), number(words));
-    let symbol = symbol(heap, words)?;
-    match (numbers, symbol) {
-        ((Some(time), Some(price), Some(volume)), Some(symbol)) => {
-            Ok(Some(Draft::Trade {
-                time,
-                price,
-                volume,
-                symbol,
-            }))
-        }
-        _ => Ok(None),
-    }
-}
-
-fn read_quote(heap: Global, words: &mut SplitWhitespace<'_>) -> Result<Option<Draft>, AllocError> {
-    let numbers = (number(words), price(words), price(words));
-    let symbol = symbol(heap, words)?;
-    match (numbers, symbol) {
-        ((Some(time), Some(bid), Some(offer)), Some(symbol)) => {
-            Ok(Some(Draft::Quote {
-                time,
-                bid,
-                offer,
-                symbol,
-            }))
-        }
-        _ => Ok(None),
-    }
-}
-
-fn read_write<'a>(
-    heap: Global,
-    words: &mut SplitWhitespace<'a>,
-) -> Result<Option<Call<'a>>, AllocError> {
-    let draft = match words.next() {
-        Some("trade") => read_trade(heap, words)?,
-        Some("quote") => read_quote(heap, words)?,
-        _ => None,
-    };
-    match draft {
-        Some(draft) => Ok(Some(Call::Write(draft))),
-        None => Ok(None),
-    }
-}
-
-fn read_tape<'a>(
-    heap: Global,
-    words: &mut SplitWhitespace<'a>,
-) -> Result<Option<Call<'a>>, AllocError> {
-    let Some(word) = words.next() else {
-        return Ok(None);
-    };
-    match read_bytes(heap, word)? {
-        Some(bytes) => Ok(Some(Call::Tape(bytes))),
-        None => Ok(None),
-    }
-}
-
-fn read_start<'a>(words: &mut SplitWhitespace<'a>) -> Option<Call<'a>> {
-    Some(Call::Start(number(words)?))
-}
-
-fn read_file<'a>(words: &mut SplitWhitespace<'a>) -> Option<Call<'a>> {
-    Some(Call::TapeFile(words.next()?))
-}
-
-// The call that the words behind its verb make, if they have its form.
-pub fn read_call<'a>(
-    heap: Global,
-    verb: Verb,
-    words: &mut SplitWhitespace<'a>,
-) -> Result<Option<Call<'a>>, AllocError> {
-    let call = match verb {
-        Verb::Tape => read_tape(heap, words)?,
-        Verb::TapeFile => read_file(words),
-        Verb::Records => Some(Call::Records),
-        Verb::Start => read_start(words),
-        Verb::Write => read_write(heap, words)?,
-        Verb::Written => Some(Call::Written),
-    };
-    if words.next().is_some() {
-        return Ok(None);
-    }
-    Ok(call)
+    Window { close: u32, windows: u32 },
+    Reference(Question),
+    Rule(Figures),
+    Offset { level: u32, price: u32 },
 }

@@ -1,6 +1,10 @@
 // Plays a script of calls and prints one answer line for each.
 mod calls;
+mod reading;
+mod reference_calls;
+mod rule_calls;
 mod session;
+mod tape_calls;
 
 use calls::CALLS;
 use session::Session;

@@ -1,3 +1,4 @@
+pub mod Back
 pub mod Digits
 pub mod Fronts
 pub mod Means

@@ -69,6 +69,19 @@ impl<'a> Reader<'a> {
         })
     }
 
+    /// A reader of a tape's part: records side by side, with no version byte before them.
+    pub fn part(bytes: &'a [u8]) -> Reader<'a>
+        ensures bytes { λ r. ⌜ now (r .tape) ≡ now (bytes .entry) ⌝ }
+        ensures place { λ r. ⌜ r .at ≡ 0 ⌝ }
+        ensures time { λ r. ⌜ r .last ≡ 0 ⌝ }
+    {
+        Reader {
+            tape: bytes,
+            at: 0,
+            last: 0,
+        }
+    }
+
     /// The next record, or none at the tape's end. A refusal leaves the reader where it was.
     pub fn next(&mut self) -> Result<Option<Placed<'a>>, TapeFault>
         ensures gives { λ r. ⌜ told r ≡ step (drop (now (self .entry) .at) (now (now (self .entry) .tape))) (now (self .entry) .at) (now (self .entry) .last) ⌝ }

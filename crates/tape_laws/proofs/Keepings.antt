@@ -15,7 +15,7 @@ use Rattle.tape.specs.Reading.{parse}
 use Rattle.tape.specs.Sound.{InOrder, Sound, latest}
 use Rattle.tape.specs.Writing.{splice, answer, endAfter}
 use Rattle.tape_laws.specs.Keeping.{accepts, kept, overlaid, Holds}
-use Rattle.tape_laws.proofs.Back.{reads-back}
+use Rattle.tape.proofs.Back.{reads-back}
 use Rattle.tape_laws.proofs.Filling.{Filled, filled-none, started, filled-long, filled-tape, filled-more, inorder-more, latest-more}
 
 -- after the first i of the records rs, the tape holds `done`

@@ -1,2 +1,4 @@
+pub mod Alike
 pub mod Copying
+pub mod Examples
 pub mod Keeping

@@ -1,2 +1,3 @@
+pub mod both;
 pub mod copy;
 pub mod write;

@@ -67,7 +67,7 @@ step-encode r rest p last fits good t =
     ∙ ap (λ x. stepped p (timely p last x)) (record-reads-back r rest fits good)
     ∙ ap (stepped p) (cond-true (leb last (timeOf r)) (Ok r) (Err (refusedAt 6 p)) (le-leb last (timeOf r) t))
 
-walk-encode : (rs : List Plain) (n p last : ℕ) → length rs ≤ n → InOrder last rs → walk n (joined encode rs) p last ≡ sound rs
+pub walk-encode : (rs : List Plain) (n p last : ℕ) → length rs ≤ n → InOrder last rs → walk n (joined encode rs) p last ≡ sound rs
 walk-encode [] zero p last h a = refl
 walk-encode [] (suc n) p last h a = refl
 walk-encode (r ∷ rs) zero p last h a = absurd (omega arith)
@@ -76,7 +76,7 @@ walk-encode (r ∷ rs) (suc n) p last h a =
     ∙ ap (λ l. put r (walk n l (p + sizeOf r) (timeOf r))) (drop-at (encode r) (joined encode rs) (sizeOf r) (length-encode r))
     ∙ ap (put r) (walk-encode rs n (p + sizeOf r) (timeOf r) (omega arith) (a .3))
 
-length-joined : (rs : List Plain) → length rs ≤ length (joined encode rs)
+pub length-joined : (rs : List Plain) → length rs ≤ length (joined encode rs)
 length-joined [] = omega arith
 length-joined (r ∷ rs) = omega (arith, length-append (encode r) (joined encode rs), length-encode r, length-joined rs)
 

@@ -1,0 +1,200 @@
+// How the words of a line are read as a call.
+use super::calls::Call;
+use super::calls::Draft;
+use super::calls::Figures;
+use super::calls::Question;
+use super::calls::Verb;
+use std::alloc::AllocError;
+use std::alloc::Global;
+use std::str::SplitWhitespace;
+use words::Price;
+use words::PriceFromStr;
+use words::read_bytes;
+use words::read_number;
+use words::read_symbol;
+
+fn number(words: &mut SplitWhitespace<'_>) -> Option<u32> {
+    read_number(words.next()?)
+}
+
+fn price_of(word: &str) -> Option<u32> {
+    match word.parse::<Price>() {
+        Ok(Price(price)) => Some(price),
+        Err(_) => None,
+    }
+}
+
+fn price(words: &mut SplitWhitespace<'_>) -> Option<u32> {
+    price_of(words.next()?)
+}
+
+fn symbol(heap: Global, words: &mut SplitWhitespace<'_>) -> Result<Option<Vec<u8>>, AllocError> {
+    match words.next() {
+        Some(word) => read_symbol(heap, word),
+        None => Ok(None),
+    }
+}
+
+fn read_trade(heap: Global, words: &mut SplitWhitespace<'_>) -> Result<Option<Draft>, AllocError> {
+    let numbers = (number(words), price(words), number(words));
+    let symbol = symbol(heap, words)?;
+    match (numbers, symbol) {
+        ((Some(time), Some(price), Some(volume)), Some(symbol)) => {
+            Ok(Some(Draft::Trade {
+                time,
+                price,
+                volume,
+                symbol,
+            }))
+        }
+        _ => Ok(None),
+    }
+}
+
+fn read_quote(heap: Global, words: &mut SplitWhitespace<'_>) -> Result<Option<Draft>, AllocError> {
+    let numbers = (number(words), price(words), price(words));
+    let symbol = symbol(heap, words)?;
+    match (numbers, symbol) {
+        ((Some(time), Some(bid), Some(offer)), Some(symbol)) => {
+            Ok(Some(Draft::Quote {
+                time,
+                bid,
+                offer,
+                symbol,
+            }))
+        }
+        _ => Ok(None),
+    }
+}
+
+fn read_write<'a>(
+    heap: Global,
+    words: &mut SplitWhitespace<'a>,
+) -> Result<Option<Call<'a>>, AllocError> {
+    let draft = match words.next() {
+        Some("trade") => read_trade(heap, words)?,
+        Some("quote") => read_quote(heap, words)?,
+        _ => None,
+    };
+    match draft {
+        Some(draft) => Ok(Some(Call::Write(draft))),
+        None => Ok(None),
+    }
+}
+
+fn read_tape<'a>(
+    heap: Global,
+    words: &mut SplitWhitespace<'a>,
+) -> Result<Option<Call<'a>>, AllocError> {
+    let Some(word) = words.next() else {
+        return Ok(None);
+    };
+    match read_bytes(heap, word)? {
+        Some(bytes) => Ok(Some(Call::Tape(bytes))),
+        None => Ok(None),
+    }
+}
+
+fn read_start<'a>(words: &mut SplitWhitespace<'a>) -> Option<Call<'a>> {
+    Some(Call::Start(number(words)?))
+}
+
+fn read_file<'a>(words: &mut SplitWhitespace<'a>) -> Option<Call<'a>> {
+    Some(Call::TapeFile(words.next()?))
+}
+
+fn read_window<'a>(words: &mut SplitWhitespace<'a>) -> Option<Call<'a>> {
+    let close = number(words)?;
+    let windows = number(words)?;
+    Some(Call::Window { close, windows })
+}
+
+fn read_reference<'a>(
+    heap: Global,
+    words: &mut SplitWhitespace<'a>,
+) -> Result<Option<Call<'a>>, AllocError> {
+    let symbol = symbol(heap, words)?;
+    match (symbol, number(words), number(words)) {
+        (Some(symbol), Some(close), Some(windows)) => {
+            Ok(Some(Call::Reference(Question {
+                symbol,
+                close,
+                windows,
+            })))
+        }
+        _ => Ok(None),
+    }
+}
+
+// As many prices as are left.
+fn read_prices(
+    heap: Global,
+    words: &mut SplitWhitespace<'_>,
+) -> Result<Option<Vec<u32>>, AllocError> {
+    let mut prices = Vec::new(heap);
+    for word in words {
+        let Some(price) = price_of(word) else {
+            return Ok(None);
+        };
+        prices.push(price)?;
+    }
+    Ok(Some(prices))
+}
+
+fn read_figures(
+    heap: Global,
+    words: &mut SplitWhitespace<'_>,
+) -> Result<Option<Figures>, AllocError> {
+    match words.next() {
+        Some("daily") => Ok(Some(Figures::Daily)),
+        Some("quarterly") => match read_prices(heap, words)? {
+            Some(closes) => Ok(Some(Figures::Quarterly(closes))),
+            None => Ok(None),
+        },
+        Some("monthly") => match price(words) {
+            Some(settlement) => Ok(Some(Figures::Monthly(settlement))),
+            None => Ok(None),
+        },
+        _ => Ok(None),
+    }
+}
+
+fn read_rule<'a>(
+    heap: Global,
+    words: &mut SplitWhitespace<'a>,
+) -> Result<Option<Call<'a>>, AllocError> {
+    match read_figures(heap, words)? {
+        Some(figures) => Ok(Some(Call::Rule(figures))),
+        None => Ok(None),
+    }
+}
+
+fn read_offset<'a>(words: &mut SplitWhitespace<'a>) -> Option<Call<'a>> {
+    let level = number(words)?;
+    let price = price(words)?;
+    Some(Call::Offset { level, price })
+}
+
+// The call that the words behind its verb make, if they have its form.
+pub fn read_call<'a>(
+    heap: Global,
+    verb: Verb,
+    words: &mut SplitWhitespace<'a>,
+) -> Result<Option<Call<'a>>, AllocError> {
+    let call = match verb {
+        Verb::Tape => read_tape(heap, words)?,
+        Verb::TapeFile => read_file(words),
+        Verb::Records => Some(Call::Records),
+        Verb::Start => read_start(words),
+        Verb::Write => read_write(heap, words)?,
+        Verb::Written => Some(Call::Written),
+        Verb::Window => read_window(words),
+        Verb::Reference => read_reference(heap, words)?,
+        Verb::Rule => read_rule(heap, words)?,
+        Verb::Offset => read_offset(words),
+    };
+    if words.next().is_some() {
+        return Ok(None);
+    }
+    Ok(call)
+}

@@ -1,0 +1,5 @@
+pub mod fault;
+pub mod finding;
+mod priced;
+mod sums;
+pub mod window;
