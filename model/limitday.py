@@ -223,6 +223,49 @@ def monthly(settlement):
     return Rule(5_00, lambda p: [offset])
 
 
+# --- listings ------------------------------------------------------------------------------------
+
+LETTERS = "FGHJKMNQUVXZ"
+MOST_PLACES = 4096
+
+
+def month_code(word):
+    if not re.fullmatch("[" + LETTERS + "][0-9]{2}", word):
+        raise Refused(21)
+    return word
+
+
+def series_key(code, strike, right):
+    if not 1 <= strike <= 400_000:
+        raise Refused(21)
+    return month_code(code), strike, right
+
+
+class Roster:
+    """Entries in the order of entering, as (key, last day)."""
+
+    def __init__(self, places):
+        self.room, self.entries = min(places, MOST_PLACES), []
+
+    def index(self, key):
+        return next((i for i, (k, _) in enumerate(self.entries) if k == key), None)
+
+    def list(self, key, last):
+        if self.index(key) is not None:
+            raise Refused(28)
+        if len(self.entries) >= self.room:
+            raise Refused(27)
+        self.entries.append((key, last))
+        return f"listed {len(self.entries)}"
+
+    def delist(self, key):
+        i = self.index(key)
+        if i is None:
+            raise Refused(22)
+        del self.entries[i]
+        return f"delisted {len(self.entries)}"
+
+
 # --- script --------------------------------------------------------------------------------------
 
 FORMS = {
@@ -236,6 +279,11 @@ FORMS = {
     "reference": "reference SYMBOL CLOSE K",
     "rule": "rule daily, rule quarterly C1 .. C20 or rule monthly SETTLEMENT",
     "offset": "offset LEVEL PRICE",
+    "places": "places M S",
+    "month": "month CODE [last]",
+    "drop-month": "drop-month CODE",
+    "series": "series CODE STRIKE call|put [last]",
+    "drop-series": "drop-series CODE STRIKE call|put",
 }
 
 
@@ -248,6 +296,7 @@ class Session:
         self.writer = None
         self.reference = None
         self.rule = None
+        self.months, self.series = Roster(MOST_PLACES), Roster(MOST_PLACES)
 
     def take(self, tape):
         self.tape = tape
@@ -320,6 +369,23 @@ class Session:
                 return ["error: expected a rule before this call"]
             offset = self.rule.offset(level, p)
             return ["offset none" if offset is None else f"offset {show_price(offset)}"]
+        if verb == "places":
+            months, series = map(number, words)
+            self.months, self.series = Roster(months), Roster(series)
+            return [f"places {self.months.room} {self.series.room}"]
+        if verb in ("month", "drop-month"):
+            code, *last = words
+            if last not in ([], ["last"]) or (last and verb == "drop-month"):
+                raise ScriptError
+            key = month_code(code)
+            return [self.months.list(key, bool(last)) if verb == "month" else self.months.delist(key)]
+        if verb in ("series", "drop-series"):
+            code, strike, right, *last = words
+            strike = number(strike)
+            if right not in ("call", "put") or last not in ([], ["last"]) or (last and verb == "drop-series"):
+                raise ScriptError
+            key = series_key(code, strike, right)
+            return [self.series.list(key, bool(last)) if verb == "series" else self.series.delist(key)]
         raise AssertionError(verb)
 
     @staticmethod

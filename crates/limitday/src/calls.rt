@@ -1,4 +1,5 @@
 // The calls of a script.
+use listings::series::Right;
 
 pub const CALLS: &str =
     "limitday [SCRIPT]   plays the calls of a script, or of standard input, one to a line
@@ -16,6 +17,11 @@ pub const CALLS: &str =
   rule quarterly C1 .. C20                 that of twenty closes
   rule monthly SETTLEMENT                  that of a lead-month settlement
   offset LEVEL PRICE                       how far the rule's limits lie from a price
+  places M S                               empty rosters with so many places for months and series
+  month CODE [last]                        list a futures month; last: today is its last day
+  drop-month CODE                          take it off
+  series CODE STRIKE call|put [last]       list an option series
+  drop-series CODE STRIKE call|put         take it off
 
 Prices are in points with at most two decimals, times in milliseconds. A blank line and one
 that begins with # are skipped.";
@@ -32,6 +38,11 @@ pub enum Verb {
     Reference,
     Rule,
     Offset,
+    Places,
+    Month,
+    DropMonth,
+    Series,
+    DropSeries,
 }
 
 impl Verb {
@@ -47,6 +58,11 @@ impl Verb {
             "reference" => Some(Verb::Reference),
             "rule" => Some(Verb::Rule),
             "offset" => Some(Verb::Offset),
+            "places" => Some(Verb::Places),
+            "month" => Some(Verb::Month),
+            "drop-month" => Some(Verb::DropMonth),
+            "series" => Some(Verb::Series),
+            "drop-series" => Some(Verb::DropSeries),
             _ => None,
         }
     }
@@ -65,6 +81,11 @@ impl Verb {
             Verb::Reference => "reference SYMBOL CLOSE K",
             Verb::Rule => "rule daily, rule quarterly C1 .. C20 or rule monthly SETTLEMENT",
             Verb::Offset => "offset LEVEL PRICE",
+            Verb::Places => "places M S",
+            Verb::Month => "month CODE [last]",
+            Verb::DropMonth => "drop-month CODE",
+            Verb::Series => "series CODE STRIKE call|put [last]",
+            Verb::DropSeries => "drop-series CODE STRIKE call|put",
         }
     }
 }
@@ -102,6 +123,21 @@ pub enum Figures {
     Monthly(u32),
 }
 
+// A futures month by its code's word, which the library reads.
+#[derive(Clone, Copy)]
+pub struct MonthWords<'a> {
+    pub code: &'a str,
+    pub last_day: bool,
+}
+
+#[derive(Clone, Copy)]
+pub struct SeriesWords<'a> {
+    pub code: &'a str,
+    pub strike: u32,
+    pub right: Right,
+    pub last_day: bool,
+}
+
 #[derive(Drop)]
 pub enum Call<'a> {
     Tape(Vec<u8>),
@@ -114,4 +150,9 @@ pub enum Call<'a> {
     Reference(Question),
     Rule(Figures),
     Offset { level: u32, price: u32 },
+    Places { months: u32, series: u32 },
+    Month(MonthWords<'a>),
+    DropMonth(MonthWords<'a>),
+    Series(SeriesWords<'a>),
+    DropSeries(SeriesWords<'a>),
 }

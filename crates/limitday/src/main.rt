@@ -2,6 +2,7 @@
 mod calls;
 mod reading;
 mod reference_calls;
+mod roster_calls;
 mod rule_calls;
 mod session;
 mod tape_calls;
@@ -22,7 +23,7 @@ use std::io::Write;
 fn play<R: Read + Drop>(rt: &LibcRuntime, input: R) -> io::Result<()> {
     let heap = rt.alloc();
     let mut out = BufWriter::new(rt.stdout());
-    let mut session = Session::new(heap);
+    let mut session = Session::new(heap)?;
     let mut number: u64 = 0;
     for line in BufReader::new(input).split(heap, b'\n') {
         let line = line?;

@@ -2,8 +2,11 @@
 use super::calls::Call;
 use super::calls::Draft;
 use super::calls::Figures;
+use super::calls::MonthWords;
 use super::calls::Question;
+use super::calls::SeriesWords;
 use super::calls::Verb;
+use listings::series::Right;
 use std::alloc::AllocError;
 use std::alloc::Global;
 use std::str::SplitWhitespace;
@@ -175,6 +178,66 @@ fn read_offset<'a>(words: &mut SplitWhitespace<'a>) -> Option<Call<'a>> {
     Some(Call::Offset { level, price })
 }
 
+fn read_places<'a>(words: &mut SplitWhitespace<'a>) -> Option<Call<'a>> {
+    let months = number(words)?;
+    let series = number(words)?;
+    Some(Call::Places { months, series })
+}
+
+// Whether the flag of the last day stands, or no more words do.
+fn read_last(words: &mut SplitWhitespace<'_>) -> Option<bool> {
+    match words.next() {
+        None => Some(false),
+        Some("last") => Some(true),
+        Some(_) => None,
+    }
+}
+
+fn read_right(words: &mut SplitWhitespace<'_>) -> Option<Right> {
+    match words.next()? {
+        "call" => Some(Right::Call),
+        "put" => Some(Right::Put),
+        _ => None,
+    }
+}
+
+fn read_month<'a>(words: &mut SplitWhitespace<'a>) -> Option<MonthWords<'a>> {
+    Some(MonthWords {
+        code: words.next()?,
+        last_day: false,
+    })
+}
+
+fn read_series<'a>(words: &mut SplitWhitespace<'a>) -> Option<SeriesWords<'a>> {
+    let code = words.next()?;
+    let strike = number(words)?;
+    let right = read_right(words)?;
+    Some(SeriesWords {
+        code,
+        strike,
+        right,
+        last_day: false,
+    })
+}
+
+fn read_listing<'a>(verb: Verb, words: &mut SplitWhitespace<'a>) -> Option<Call<'a>> {
+    match verb {
+        Verb::Month => {
+            let mut month = read_month(words)?;
+            month.last_day = read_last(words)?;
+            Some(Call::Month(month))
+        }
+        Verb::DropMonth => Some(Call::DropMonth(read_month(words)?)),
+        Verb::Series => {
+            let mut series = read_series(words)?;
+            series.last_day = read_last(words)?;
+            Some(Call::Series(series))
+        }
+        Verb::DropSeries => Some(Call::DropSeries(read_series(words)?)),
+        _ => None,
+    }
+}
+
 // The call that the words behind its verb make, if they have its form.
 pub fn read_call<'a>(
     heap: Global,
@@ -192,6 +255,11 @@ pub fn read_call<'a>(
         Verb::Reference => read_reference(heap, words)?,
         Verb::Rule => read_rule(heap, words)?,
         Verb::Offset => read_offset(words),
+        Verb::Places => read_places(words),
+        Verb::Month | Verb::DropMonth | Verb::Series | Verb::DropSeries => read_listing(
+            verb,
+            words,
+        ),
     };
     if words.next().is_some() {
         return Ok(None);

@@ -2,8 +2,11 @@
 use super::calls::Call;
 use super::calls::Verb;
 use super::reading::read_call;
+use super::roster_calls::MOST_PLACES;
+use super::roster_calls::Rosters;
 use super::rule_calls::Rule;
 use reference::finding::Reference;
+use std::alloc::AllocError;
 use std::alloc::Global;
 use std::io;
 use std::io::Write;
@@ -20,6 +23,7 @@ pub struct Session {
     pub(super) end: Option<End>,
     pub(super) reference: Option<Reference>,
     pub(super) rule: Option<Rule>,
+    pub(super) rosters: Rosters,
 }
 
 pub(super) fn print_refusal<W: Write>(out: &mut W, line: u64, refusal: Refusal) -> io::Result<()> {
@@ -27,15 +31,16 @@ pub(super) fn print_refusal<W: Write>(out: &mut W, line: u64, refusal: Refusal) 
 }
 
 impl Session {
-    pub fn new(heap: Global) -> Session {
-        Session {
+    pub fn new(heap: Global) -> Result<Session, AllocError> {
+        Ok(Session {
             heap,
             tape: None,
             buffer: Vec::new(heap),
             end: None,
             reference: None,
             rule: None,
-        }
+            rosters: Rosters::new(heap, MOST_PLACES, MOST_PLACES)?,
+        })
     }
 
     fn answer<W: Write>(
@@ -56,6 +61,11 @@ impl Session {
             Call::Reference(question) => self.find(out, line, question),
             Call::Rule(figures) => self.make_rule(out, line, figures),
             Call::Offset { level, price } => self.tell_offset(out, line, level, price),
+            Call::Places { months, series } => self.lay_out(out, line, months, series),
+            Call::Month(words) => self.rosters.list_month(out, line, words),
+            Call::DropMonth(words) => self.rosters.drop_month(out, line, words),
+            Call::Series(words) => self.rosters.list_series(out, line, words),
+            Call::DropSeries(words) => self.rosters.drop_series(out, line, words),
         }
     }
 }

@@ -1,0 +1,3 @@
+pub mod code;
+pub mod futures;
+pub mod series;

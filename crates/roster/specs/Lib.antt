@@ -1,0 +1,4 @@
+pub mod Codes
+pub mod Checks
+pub mod Places
+pub mod Rosters

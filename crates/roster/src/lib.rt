@@ -1,0 +1,4 @@
+pub mod fault;
+pub mod held;
+pub mod listing;
+pub mod lookup;
