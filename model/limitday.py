@@ -266,6 +266,111 @@ class Roster:
         return f"delisted {len(self.entries)}"
 
 
+# --- day -----------------------------------------------------------------------------------------
+
+SPAN = 120_000
+TICK = 5_00
+SIDES = {"lower": "offered", "upper": "bid"}
+
+
+def watches(marks, side, n):
+    """When the watches of a side started, read from the accepted marks (time, kind)."""
+    starts = []
+    for t, kind in marks:
+        if kind == SIDES[side] and len(starts) + 1 < n and (not starts or starts[-1] + SPAN <= t):
+            starts.append(t)
+    return starts
+
+
+def level(marks, side, n, t):
+    return 1 + sum(s + SPAN <= t for s in watches(marks, side, n))
+
+
+def watch_end(marks, side, n, t):
+    return next((s + SPAN for s in watches(marks, side, n) if s <= t < s + SPAN), None)
+
+
+def halts(marks, n):
+    """Beginnings of halts: watch ends before which the last accepted mark is of the watch's side."""
+    for side, kind in SIDES.items():
+        for s in watches(marks, side, n):
+            before = [k for t, k in marks if t < s + SPAN]
+            if before and before[-1] == kind:
+                yield s + SPAN
+
+
+def halt_end(marks, n, t):
+    return next((b + SPAN for b in halts(marks, n) if b <= t < b + SPAN), None)
+
+
+def standing(marks, n, t):
+    if not marks or marks[-1][1] == "clear" or any(marks[-1][0] < b <= t for b in halts(marks, n)):
+        return None
+    return marks[-1][1]
+
+
+class Day:
+    """The rule, the price, and what calls left behind: the clock and the accepted marks."""
+
+    def __init__(self, rule, price):
+        self.rule, self.p = rule, price // rule.unit * rule.unit
+        if rule.offset(1, self.p) is None:
+            raise Refused(10)
+        self.clock, self.marks = 0, []
+
+    def bounds(self, t):
+        n = self.rule.levels
+        low = self.p - self.rule.offset(level(self.marks, "lower", n, t), self.p)
+        high = self.p + self.rule.offset(level(self.marks, "upper", n, t), self.p)
+        return low, high, -(-low // TICK) * TICK, high // TICK * TICK
+
+    def move(self, formed, t):
+        if not formed:
+            raise Refused(21)
+        if not self.clock <= t <= LAST_TIME:
+            raise Refused(20)
+        self.clock = t
+
+    def halted(self, t):
+        return halt_end(self.marks, self.rule.levels, t) is not None
+
+    def mark(self, t, kind, q):
+        self.move(kind != "clear" or q == 0, t)
+        if self.halted(t):
+            raise Refused(23)
+        _, _, low_edge, high_edge = self.bounds(t)
+        if kind != "clear" and q != (high_edge if kind == "bid" else low_edge):
+            raise Refused(26)
+        self.marks.append((t, kind))
+        return "accepted"
+
+    def tick(self, t):
+        self.move(True, t)
+        return "ticked"
+
+    def look(self, t):
+        self.move(True, t)
+        n = self.rule.levels
+        low, high, low_edge, high_edge = map(show_price, self.bounds(t))
+        shown = [level(self.marks, "lower", n, t), level(self.marks, "upper", n, t), standing(self.marks, n, t),
+                 watch_end(self.marks, "lower", n, t), watch_end(self.marks, "upper", n, t), halt_end(self.marks, n, t)]
+        a, b, mark, lower, upper, halt = ("none" if x is None else x for x in shown)
+        return (f"look limits {low} {high} edges {low_edge} {high_edge} levels {a} {b} "
+                f"mark {mark} watches {lower} {upper} halt {halt}")
+
+    def future(self, t, code, q, months):
+        self.move(re.fullmatch("[" + LETTERS + "][0-9]{2}", code) and 0 < q <= 400_000_00 and q % TICK == 0, t)
+        at = months.index(code)
+        if at is None:
+            raise Refused(22)
+        if self.halted(t):
+            raise Refused(23)
+        low, high, _, _ = self.bounds(t)
+        if not months.entries[at][1] and not low <= q <= high:
+            raise Refused(24)
+        return "admitted"
+
+
 # --- script --------------------------------------------------------------------------------------
 
 FORMS = {
@@ -284,6 +389,11 @@ FORMS = {
     "drop-month": "drop-month CODE",
     "series": "series CODE STRIKE call|put [last]",
     "drop-series": "drop-series CODE STRIKE call|put",
+    "open": "open PRICE or open reference",
+    "mark": "mark T bid|offered|clear PRICE",
+    "tick": "tick T",
+    "look": "look T",
+    "future": "future T CODE PRICE",
 }
 
 
@@ -297,6 +407,7 @@ class Session:
         self.reference = None
         self.rule = None
         self.months, self.series = Roster(MOST_PLACES), Roster(MOST_PLACES)
+        self.day = None
 
     def take(self, tape):
         self.tape = tape
@@ -386,6 +497,32 @@ class Session:
                 raise ScriptError
             key = series_key(code, strike, right)
             return [self.series.list(key, bool(last)) if verb == "series" else self.series.delist(key)]
+        if verb == "open":
+            (word,) = words
+            stated = None if word == "reference" else price(word)
+            if self.rule is None:
+                return ["error: expected a rule before this call"]
+            if stated is None and self.reference is None:
+                return ["error: expected a reference before this call"]
+            self.day = None
+            self.day = Day(self.rule, self.reference[0] if stated is None else stated)
+            return [f"opened at {show_price(self.day.p)}"]
+        if verb in ("mark", "tick", "look", "future"):
+            t, *words = words
+            t = number(t)
+            if verb == "mark":
+                kind, q = words
+                if kind not in ("bid", "offered", "clear"):
+                    raise ScriptError
+                words = [kind, price(q)]
+            elif verb == "future":
+                code, q = words
+                words = [code, price(q), self.months]
+            elif words:
+                raise ScriptError
+            if self.day is None:
+                return ["error: expected a day before this call"]
+            return [getattr(self.day, verb)(t, *words)]
         raise AssertionError(verb)
 
     @staticmethod

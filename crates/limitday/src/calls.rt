@@ -1,5 +1,6 @@
 // The calls of a script.
 use listings::series::Right;
+use watches::Kind;
 
 pub const CALLS: &str =
     "limitday [SCRIPT]   plays the calls of a script, or of standard input, one to a line
@@ -22,6 +23,12 @@ pub const CALLS: &str =
   drop-month CODE                          take it off
   series CODE STRIKE call|put [last]       list an option series
   drop-series CODE STRIKE call|put         take it off
+  open PRICE                               open a day of the rule at a stated price
+  open reference                           open it at the reference price
+  mark T bid|offered|clear PRICE           the primary month is limit bid, limit offered or neither
+  tick T                                   move the day to a time
+  look T                                   limits, edges, levels, mark, watches and halt
+  future T CODE PRICE                      an order in a futures month
 
 Prices are in points with at most two decimals, times in milliseconds. A blank line and one
 that begins with # are skipped.";
@@ -43,6 +50,11 @@ pub enum Verb {
     DropMonth,
     Series,
     DropSeries,
+    Open,
+    Mark,
+    Tick,
+    Look,
+    Future,
 }
 
 impl Verb {
@@ -63,6 +75,11 @@ impl Verb {
             "drop-month" => Some(Verb::DropMonth),
             "series" => Some(Verb::Series),
             "drop-series" => Some(Verb::DropSeries),
+            "open" => Some(Verb::Open),
+            "mark" => Some(Verb::Mark),
+            "tick" => Some(Verb::Tick),
+            "look" => Some(Verb::Look),
+            "future" => Some(Verb::Future),
             _ => None,
         }
     }
@@ -86,6 +103,11 @@ impl Verb {
             Verb::DropMonth => "drop-month CODE",
             Verb::Series => "series CODE STRIKE call|put [last]",
             Verb::DropSeries => "drop-series CODE STRIKE call|put",
+            Verb::Open => "open PRICE or open reference",
+            Verb::Mark => "mark T bid|offered|clear PRICE",
+            Verb::Tick => "tick T",
+            Verb::Look => "look T",
+            Verb::Future => "future T CODE PRICE",
         }
     }
 }
@@ -138,6 +160,22 @@ pub struct SeriesWords<'a> {
     pub last_day: bool,
 }
 
+// Where an opening's price comes from.
+#[derive(Clone, Copy)]
+pub enum Start {
+    Stated(u32),
+    Reference,
+}
+
+// What a day is asked, at a time.
+#[derive(Clone, Copy)]
+pub enum Asked<'a> {
+    Mark(Kind, u32),
+    Tick,
+    Look,
+    Future(&'a str, u32),
+}
+
 #[derive(Drop)]
 pub enum Call<'a> {
     Tape(Vec<u8>),
@@ -155,4 +193,6 @@ pub enum Call<'a> {
     DropMonth(MonthWords<'a>),
     Series(SeriesWords<'a>),
     DropSeries(SeriesWords<'a>),
+    Open(Start),
+    Ask(u32, Asked<'a>),
 }

@@ -1,5 +1,6 @@
 // Plays a script of calls and prints one answer line for each.
 mod calls;
+mod day_calls;
 mod reading;
 mod reference_calls;
 mod roster_calls;

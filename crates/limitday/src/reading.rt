@@ -1,15 +1,18 @@
 // How the words of a line are read as a call.
+use super::calls::Asked;
 use super::calls::Call;
 use super::calls::Draft;
 use super::calls::Figures;
 use super::calls::MonthWords;
 use super::calls::Question;
 use super::calls::SeriesWords;
+use super::calls::Start;
 use super::calls::Verb;
 use listings::series::Right;
 use std::alloc::AllocError;
 use std::alloc::Global;
 use std::str::SplitWhitespace;
+use watches::Kind;
 use words::Price;
 use words::PriceFromStr;
 use words::read_bytes;
@@ -238,6 +241,44 @@ fn read_listing<'a>(verb: Verb, words: &mut SplitWhitespace<'a>) -> Option<Call<
     }
 }
 
+fn read_open<'a>(words: &mut SplitWhitespace<'a>) -> Option<Call<'a>> {
+    match words.next()? {
+        "reference" => Some(Call::Open(Start::Reference)),
+        word => Some(Call::Open(Start::Stated(price_of(word)?))),
+    }
+}
+
+fn read_kind(words: &mut SplitWhitespace<'_>) -> Option<Kind> {
+    match words.next()? {
+        "bid" => Some(Kind::Bid),
+        "offered" => Some(Kind::Offered),
+        "clear" => Some(Kind::Clear),
+        _ => None,
+    }
+}
+
+fn read_mark<'a>(words: &mut SplitWhitespace<'a>) -> Option<Asked<'a>> {
+    let kind = read_kind(words)?;
+    Some(Asked::Mark(kind, price(words)?))
+}
+
+fn read_future<'a>(words: &mut SplitWhitespace<'a>) -> Option<Asked<'a>> {
+    let code = words.next()?;
+    Some(Asked::Future(code, price(words)?))
+}
+
+fn read_asked<'a>(verb: Verb, words: &mut SplitWhitespace<'a>) -> Option<Call<'a>> {
+    let time = number(words)?;
+    let asked = match verb {
+        Verb::Mark => read_mark(words)?,
+        Verb::Tick => Asked::Tick,
+        Verb::Look => Asked::Look,
+        Verb::Future => read_future(words)?,
+        _ => return None,
+    };
+    Some(Call::Ask(time, asked))
+}
+
 // The call that the words behind its verb make, if they have its form.
 pub fn read_call<'a>(
     heap: Global,
@@ -256,6 +297,8 @@ pub fn read_call<'a>(
         Verb::Rule => read_rule(heap, words)?,
         Verb::Offset => read_offset(words),
         Verb::Places => read_places(words),
+        Verb::Open => read_open(words),
+        Verb::Mark | Verb::Tick | Verb::Look | Verb::Future => read_asked(verb, words),
         Verb::Month | Verb::DropMonth | Verb::Series | Verb::DropSeries => read_listing(
             verb,
             words,

@@ -124,6 +124,11 @@ impl Rosters {
         })
     }
 
+    pub(super) fn months(&self) -> &[FuturesMonth] {
+        let months = self.months.places.as_slice();
+        &months[0..self.months.len.min(months.len())]
+    }
+
     fn enter_month(&mut self, words: MonthWords<'_>) -> Result<usize, RosterFault> {
         self.months.list(month_of(words)?)
     }

@@ -1,6 +1,7 @@
 // What a script has made so far, and the answer to each of its lines.
 use super::calls::Call;
 use super::calls::Verb;
+use super::day_calls::AnyDay;
 use super::reading::read_call;
 use super::roster_calls::MOST_PLACES;
 use super::roster_calls::Rosters;
@@ -24,6 +25,7 @@ pub struct Session {
     pub(super) reference: Option<Reference>,
     pub(super) rule: Option<Rule>,
     pub(super) rosters: Rosters,
+    pub(super) day: Option<AnyDay>,
 }
 
 pub(super) fn print_refusal<W: Write>(out: &mut W, line: u64, refusal: Refusal) -> io::Result<()> {
@@ -40,6 +42,7 @@ impl Session {
             reference: None,
             rule: None,
             rosters: Rosters::new(heap, MOST_PLACES, MOST_PLACES)?,
+            day: None,
         })
     }
 
@@ -66,6 +69,8 @@ impl Session {
             Call::DropMonth(words) => self.rosters.drop_month(out, line, words),
             Call::Series(words) => self.rosters.list_series(out, line, words),
             Call::DropSeries(words) => self.rosters.drop_series(out, line, words),
+            Call::Open(start) => self.open_day(out, line, start),
+            Call::Ask(time, asked) => self.ask(out, line, time, asked),
         }
     }
 }

@@ -1,5 +1,4 @@
 ghost use mathlib.Core.Path.{_≡_};
-ghost use Prim.Native.Nat.{_<_};
 ghost use Rattle.std.specs.Options.{okOr};
 ghost use Rattle.roster.specs.Codes.{numbered};
 ghost use Rattle.roster.specs.Checks.{formAnswer};

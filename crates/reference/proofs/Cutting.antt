@@ -9,6 +9,7 @@ use Rattle.std.specs.Joined.{joined}
 use Rattle.std.specs.declared.result.Result.the-variants.{Ok, Err}
 use Rattle.std.specs.shelf.Lists.{kept-by}
 use Rattle.std.proofs.shelf.Tests.{cond-true}
+use Rattle.std.proofs.shelf.Ways.{tells}
 use Rattle.tape.specs.Codes.{refused}
 use Rattle.tape.specs.Format.{encode}
 use Rattle.tape.specs.Reading.{parse}
@@ -72,3 +73,6 @@ cut-is b close w p fits h =
 
 pub part-short : (b : List ℕ) (low high : ℕ) (p : Part) → Holds b low high p → length (p .bytes .now) ≤ 1048576
 part-short b low high p h = omega (arith, h .ends, edge-inside b (h .records) high (h .whole), h .whole .short)
+
+pub few-windows : (close w : ℕ) → fitRange close w ≡ true → w ≤ 20
+few-windows close w h = grind (arith, tells)

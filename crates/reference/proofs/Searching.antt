@@ -13,9 +13,9 @@ use Rattle.std.specs.declared.result.Result.the-variants.{Ok, Err}
 use Rattle.std.proofs.shelf.Lists.{at-drop-more, at-drop-all}
 use Rattle.std.proofs.shelf.Tests.{cond-true}
 use Rattle.std.proofs.shelf.Ways.{tells}
-use Rattle.tape.specs.Codes.{refused}
+use Rattle.tape.specs.Codes.{Refusal, refused}
 use Rattle.tape.specs.Format.{Plain}
-use Rattle.tape.specs.Reading.{sound, parse}
+use Rattle.tape.specs.Reading.{Outcome, sound, parse}
 use Rattle.reference.specs.declared.finding.Tier.{Tier}
 use Rattle.reference.specs.declared.finding.Tier.the-variants.{Trades}
 use Rattle.reference.specs.declared.finding.Request.{Request}
@@ -41,6 +41,13 @@ kept-one false b x q rest ys e h = h
 kept-and : {X : Type 0} (p q : X → Bool) (xs : List X) → kept-by (λ x. p x && q x) xs ≡ kept-by q (kept-by p xs)
 kept-and p q [] = refl
 kept-and p q (x ∷ xs) = kept-one (p x) (q x) x q (kept-by p xs) (kept-by (λ x. p x && q x) xs) refl (kept-and p q xs)
+
+-- a part of a sound tape is not refused
+not-refused : (s : List ℕ) (o : Outcome) (rs : List Plain) (f : Refusal) → o ≡ sound rs → Err f ≡ tallied s o → ⊥
+not-refused s o rs f is h = let e = h ∙ ap (tallied s) is in let z : _≡_ {A = ℕ} 0 1 = cc in omega arith
+
+pub part-sound : (b : List ℕ) (low high : ℕ) (p : Part) (s : List ℕ) (f : Refusal) → Holds b low high p → Err f ≡ tallied s (rowOf (p .bytes .now)) → ⊥
+part-sound b low high p s f h e = not-refused s (rowOf (p .bytes .now)) (kept-by (within low high) (h .records)) f (h .reads) e
 
 module _ (q : Request) (b : List ℕ) (w : ℕ) (part : Part) (t : Tallies) (m : Option Reference) (h : Holds b (q .close - 30000 * w) (q .close) part) (sums : Ok t ≡ tallied (q .symbol .now) (rowOf (part .bytes .now))) (found : m ≡ firstTier (meanIn t) w tiers) where
   tallies-are : t ≡ talliesOf (window (q .symbol .now) (q .close) w (h .records))

@@ -7,13 +7,16 @@ use native.Mathlib.Omega.{arith}
 use native.Mathlib.Nat.{mul-le-mul-left, add-mul}
 use lib.ListN.{length, drop}
 use Rattle.std.specs.Iters.{folded}
+use Rattle.std.specs.declared.option.Option.{Option}
+use Rattle.std.specs.declared.option.Option.the-variants.{None}
 use Rattle.std.specs.declared.result.Result.{Result}
 use Rattle.std.specs.declared.result.Result.the-variants.{Ok, Err}
 use Rattle.std.specs.shelf.Lists.{kept-by}
 use Rattle.std.proofs.shelf.Ways.{tells}
+use Rattle.tape.specs.declared.reader.Placed.{Placed}
 use Rattle.tape.specs.Codes.{Refusal}
 use Rattle.tape.specs.Format.{Plain, trade, quote, timeOf, sizeOf, goodFields}
-use Rattle.tape.specs.Reading.{over, bad, step, Outcome, sound, faulty, put}
+use Rattle.tape.specs.Reading.{over, bad, step, told, Outcome, sound, faulty, put}
 use Rattle.tape.proofs.Runs.{Sofar, turn, done, failed}
 use Rattle.tape.proofs.Steps.{Came}
 use Rattle.reference.specs.declared.sums.Sums.{Sums}
@@ -138,8 +141,12 @@ module _ (s xs : List ℕ) where
         (subst (λ u. Bounded 1 (at + sizeOf r) (u .trades)) (sym is) (bounded-added tradeKind at (sizeOf r) (t .trades) r (omega arith) (omega arith) (trade-fair r (k .fields)) (h .trades)))
         (subst (λ u. Bounded 2 (at + sizeOf r) (u .quotes)) (sym is) (bounded-added quoteKind at (sizeOf r) (t .quotes) r (omega arith) (omega arith) (quote-fair r (k .fields)) (h .quotes)))
 
-    pub tallied-done : step (drop at xs) at last ≡ over → Ok t ≡ tallied s (rowOf xs)
-    tallied-done e = done (talliedFrom s) _ xs t at last (h .sofar) e
+    pub tallied-done : (ys : List ℕ) (o : Option Placed) → ys ≡ xs → o ≡ None → told (Ok o) ≡ step (drop at ys) at last → Ok t ≡ tallied s (rowOf xs)
+    tallied-done ys o same none gives =
+        let e : step (drop at xs) at last ≡ over = ap (λ l. step (drop at l) at last) (sym same) ∙ sym gives ∙ ap (λ o. told (Ok o)) none in
+        done (talliedFrom s) _ xs t at last (h .sofar) e
 
-    pub tallied-failed : (f : Refusal) → step (drop at xs) at last ≡ bad f → Err f ≡ tallied s (rowOf xs)
-    tallied-failed f e = failed (talliedFrom s) _ xs t at last f (h .sofar) e
+    pub tallied-failed : (ys : List ℕ) (f : Refusal) → ys ≡ xs → bad f ≡ step (drop at ys) at last → Err f ≡ tallied s (rowOf xs)
+    tallied-failed ys f same gives =
+        let e : step (drop at xs) at last ≡ bad f = ap (λ l. step (drop at l) at last) (sym same) ∙ sym gives in
+        failed (talliedFrom s) _ xs t at last f (h .sofar) e

@@ -11,7 +11,7 @@ use Rattle.std.specs.Options.{isSome}
 use Rattle.std.specs.declared.option.Option.{Option}
 use Rattle.std.specs.declared.option.Option.the-variants.{Some, None}
 use Rattle.std.proofs.shelf.Tests.{cond-true, cond-false, cases-bool}
-use Rattle.roster.specs.Places.{place, placeFrom, holds, without}
+use Rattle.roster.specs.Places.{place, placeFrom, without}
 use Rattle.roster_laws.specs.Changing.{any}
 
 abbrev pub firstOut : {L : Type 0} → (L → Bool) → List L → List L

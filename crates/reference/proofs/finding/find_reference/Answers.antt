@@ -11,7 +11,7 @@ use Rattle.reference.specs.Meaning.{Answers}
 use Rattle.reference.specs.Windows.{Holds}
 use Rattle.reference.proofs.Cutting.{part-short}
 use Rattle.reference.proofs.Meanings.{found-means, nothing-means, fault-means}
-use Rattle.reference.proofs.Searching.{window-next, window-found, window-end, due-is}
+use Rattle.reference.proofs.Searching.{part-sound, window-next, window-found, window-end, due-is, few-windows}
 use Rattle.reference.proofs.finding.find_reference.Needs as need
 
 pub returns-in-Break-edges : need.returns-in-Break-edges
@@ -27,8 +27,21 @@ returns-in-Break-edges c =
       means = subst (Answers q b) (sym is) (fits, fault-means b _ (bytes-all b (λ i. c .typed .tape i .fits)) fault);
     }
 
+pub part-part-requires : need.part-part-requires
+part-part-requires c κs = (
+  c .in-Continue-edges .ensures tt .1,
+  omega (arith, few-windows (c .args .request .now) (sym (c .is-fit .ensures) ∙ c .if-not-is-fit .left)),
+)
+
 pub tally-requires : need.tally-requires
 tally-requires c κs = part-short (c .args .tape .now) _ _ _ (c .part-part .ensures)
+
+-- the part was read with the whole tape
+pub returns-in-Break-tallies : need.returns-in-Break-tallies
+returns-in-Break-tallies c = absurd (part-sound (c .args .tape .now) _ _ _ _ _ (c .part-part .ensures) (c .in-Break-tallies .ensures tt .gives))
+
+pub first-mean-requires : need.first-mean-requires
+first-mean-requires c κs = c .in-Continue-tallies .ensures tt .fits
 
 pub returns-in-Some : need.returns-in-Some
 returns-in-Some c =

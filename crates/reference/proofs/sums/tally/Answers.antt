@@ -1,11 +1,9 @@
 use mathlib.Core.Path.{sym, ap, _∙_}
 use native.Mathlib.Omega.{arith}
-use lib.ListN.{drop}
 use Rattle.std.proofs.shelf.Results.{err-from-errBy, made-from-err}
-use Rattle.std.specs.declared.result.Result.the-variants.{Ok, Err}
+use Rattle.std.specs.declared.result.Result.the-variants.{Err}
 use Rattle.tape.specs.Codes.{refusing, tapeRefusal}
 use Rattle.tape.specs.Format.{plain}
-use Rattle.tape.specs.Reading.{step, told}
 use Rattle.tape.proofs.Steps.{Came, came}
 use Rattle.reference.proofs.Tallying.{tallied-start, tallied-pass, tallied-take, tallied-done, tallied-failed, room, fits}
 use Rattle.reference.proofs.sums.tally.Needs as need
@@ -17,12 +15,10 @@ loop-placed-holds c =
 
 pub returns-in-Break-placed : need.returns-in-Break-placed
 returns-in-Break-placed c =
-    let at = c .loop-placed .reader .at in
-    let last = c .loop-placed .reader .last in
     let p = err-from-errBy (c .from-residual .result) (c .from-residual .ensures .1) in
-    let s = c .in-Break-placed .ensures tt .gives ∙ ap (λ l. step (drop at l) at last) (c .loop-placed .inv .0) in
+    let fails = tallied-failed (c .args .symbol .now) (c .args .part .now) _ _ _ (c .loop-placed .inv .1) _ _ (c .loop-placed .inv .0) (c .in-Break-placed .ensures tt .gives) in
     record {
-      gives = ap (refusing tapeRefusal) (p .1 ∙ ap Err (p .2)) ∙ tallied-failed (c .args .symbol .now) (c .args .part .now) _ at last (c .loop-placed .inv .1) _ (sym s);
+      gives = ap (refusing tapeRefusal) (p .1 ∙ ap Err (p .2)) ∙ fails;
       fits = made-from-err (c .from-residual .result) _ (c .from-residual .ensures .0);
     }
 
@@ -36,7 +32,7 @@ with-tallies-requires c κs =
 taken : (c : need.After-with-tallies) → Came (c .args .part .now) (c .loop-placed .reader .at) (c .loop-placed .reader .last) (c .next .last .self .at) (c .next .last .self .last) (c .in-Some .placed .place) (plain (c .in-Some .placed .record))
 taken c =
     let got = c .in-Continue-placed .ensures tt in
-    came _ _ _ _ _ _ _ _ (c .loop-placed .inv .1 .inside) (c .loop-placed .inv .0) (c .in-Some .is) (got .gives) (got .place) (got .time)
+    came (c .loop-placed .reader .tape .now) (c .args .part .now) (c .loop-placed .reader .at) (c .loop-placed .reader .last) _ _ _ _ (c .loop-placed .inv .1 .inside) (c .loop-placed .inv .0) (c .in-Some .is) (got .gives) (got .place) (got .time)
 
 pub loop-placed-less-then-is-named : need.loop-placed-less-then-is-named
 loop-placed-less-then-is-named c = let k = taken c in omega (arith, k .moved, k .fits)
@@ -50,7 +46,7 @@ loop-placed-again-then-is-named c = (
 passed : (c : need.Else-is-named) → Came (c .args .part .now) (c .loop-placed .reader .at) (c .loop-placed .reader .last) (c .next .last .self .at) (c .next .last .self .last) (c .in-Some .placed .place) (plain (c .in-Some .placed .record))
 passed c =
     let got = c .in-Continue-placed .ensures tt in
-    came _ _ _ _ _ _ _ _ (c .loop-placed .inv .1 .inside) (c .loop-placed .inv .0) (c .in-Some .is) (got .gives) (got .place) (got .time)
+    came (c .loop-placed .reader .tape .now) (c .args .part .now) (c .loop-placed .reader .at) (c .loop-placed .reader .last) _ _ _ _ (c .loop-placed .inv .1 .inside) (c .loop-placed .inv .0) (c .in-Some .is) (got .gives) (got .place) (got .time)
 
 pub loop-placed-less : need.loop-placed-less
 loop-placed-less c = let k = passed c in omega (arith, k .moved, k .fits)
@@ -63,10 +59,8 @@ loop-placed-again c = (
 
 pub returns : need.returns
 returns c =
-    let at = c .loop-placed .reader .at in
-    let last = c .loop-placed .reader .last in
-    let s = ap (λ o. told (Ok o)) (sym (c .in-rest .is)) ∙ c .in-Continue-placed .ensures tt .gives ∙ ap (λ l. step (drop at l) at last) (c .loop-placed .inv .0) in
+    let h = c .loop-placed .inv .1 in
     record {
-      gives = tallied-done (c .args .symbol .now) (c .args .part .now) (c .loop-placed .tallies) at last (c .loop-placed .inv .1) (sym s);
-      fits = fits (c .args .symbol .now) (c .args .part .now) (c .loop-placed .tallies) at last (c .loop-placed .inv .1);
+      gives = tallied-done (c .args .symbol .now) (c .args .part .now) (c .loop-placed .tallies) _ _ h _ _ (c .loop-placed .inv .0) (c .in-rest .is) (c .in-Continue-placed .ensures tt .gives);
+      fits = fits (c .args .symbol .now) (c .args .part .now) (c .loop-placed .tallies) _ _ h;
     }

@@ -1,8 +1,14 @@
 use mathlib.Core.Path.{sym, subst, _∙_}
 use Prim.Native.Nat.{_-_, _*_}
 use Rattle.reference.specs.Windows.{Holds}
-use Rattle.reference.proofs.Cutting.{cut-is}
+use Rattle.reference.proofs.Cutting.{cut-is, few-windows}
 use Rattle.reference.proofs.window.cut_window.Needs as need
+
+pub part-requires : need.part-requires
+part-requires c κs = (
+  c .in-Continue-edges .ensures tt .1,
+  few-windows (c .args .close) (c .args .windows) (sym (c .is-range .ensures) ∙ c .if-not-is-range .left),
+)
 
 pub returns : need.returns
 returns c =

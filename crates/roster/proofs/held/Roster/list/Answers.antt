@@ -2,7 +2,6 @@ use mathlib.Core.Path.{refl}
 use Prim.Native.Nat.{_<_, _+_}
 use native.Mathlib.Omega.{arith}
 use borrow.Author.Needs.{needs}
-use lib.ListN.{length}
 use Rattle.std.proofs.shelf.Lists.{take-more-set, length-take-le, drop-set-lt, length-set}
 use Rattle.std.proofs.shelf.Tests.{true≢false}
 use Rattle.roster.proofs.held.Roster.list.Needs as need

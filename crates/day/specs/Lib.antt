@@ -1,0 +1,3 @@
+pub mod Codes
+pub mod Form
+pub mod Answering

@@ -1,0 +1,3 @@
+pub mod Laws
+pub mod Playing
+pub mod Worked

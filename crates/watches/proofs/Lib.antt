@@ -1,0 +1,4 @@
+pub mod Keeps
+pub mod Steps
+pub mod Twice
+pub mod Turns
