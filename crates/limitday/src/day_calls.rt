@@ -73,17 +73,28 @@ fn print_view<W: Write>(out: &mut W, line: u64, view: View) -> io::Result<()> {
     let upper = Price(bounds.upper);
     let lower_edge = Price(bounds.lower_edge);
     let upper_edge = Price(bounds.upper_edge);
-    write!(out, "{line}: look limits {lower} {upper} edges {lower_edge} {upper_edge}")?;
+    write!(
+        out,
+        "{line}: look limits {lower} {upper} edges {lower_edge} {upper_edge}"
+    )?;
     let low = view.lower_level;
     let high = view.upper_level;
     let mark = Standing(view.standing);
     let lower_watch = End(view.lower_watch);
     let upper_watch = End(view.upper_watch);
     let halt = End(view.halt);
-    writeln!(out, " levels {low} {high} mark {mark} watches {lower_watch} {upper_watch} halt {halt}")
+    writeln!(
+        out,
+        " levels {low} {high} mark {mark} watches {lower_watch} {upper_watch} halt {halt}"
+    )
 }
 
-fn give<R: LimitRule>(day: &mut Day<R>, time: u32, asked: Asked<'_>, months: &[FuturesMonth]) -> Result<Answer, DayRefusal> {
+fn give<R: LimitRule>(
+    day: &mut Day<R>,
+    time: u32,
+    asked: Asked<'_>,
+    months: &[FuturesMonth],
+) -> Result<Answer, DayRefusal> {
     match asked {
         Asked::Mark(kind, price) => {
             day.mark(time, kind, price)?;
@@ -122,7 +133,12 @@ impl AnyDay {
     }
 
     // The day after a call, with its answer.
-    fn given(self, time: u32, asked: Asked<'_>, months: &[FuturesMonth]) -> (AnyDay, Result<Answer, DayRefusal>) {
+    fn given(
+        self,
+        time: u32,
+        asked: Asked<'_>,
+        months: &[FuturesMonth],
+    ) -> (AnyDay, Result<Answer, DayRefusal>) {
         match self {
             AnyDay::Daily(mut day) => {
                 let answer = give(&mut day, time, asked, months);
@@ -153,7 +169,12 @@ impl Session {
     }
 
     // A refusal leaves no day.
-    pub(super) fn open_day<W: Write>(&mut self, out: &mut W, line: u64, start: Start) -> io::Result<()> {
+    pub(super) fn open_day<W: Write>(
+        &mut self,
+        out: &mut W,
+        line: u64,
+        start: Start,
+    ) -> io::Result<()> {
         let Some(rule) = self.rule else {
             return writeln!(out, "{line}: error: expected a rule before this call");
         };
@@ -168,12 +189,25 @@ impl Session {
             }
             Err(fault) => {
                 self.day = None;
-                print_refusal(out, line, Refusal { code: fault.code(), place: None })
+                print_refusal(
+                    out,
+                    line,
+                    Refusal {
+                        code: fault.code(),
+                        place: None,
+                    },
+                )
             }
         }
     }
 
-    pub(super) fn ask<W: Write>(&mut self, out: &mut W, line: u64, time: u32, asked: Asked<'_>) -> io::Result<()> {
+    pub(super) fn ask<W: Write>(
+        &mut self,
+        out: &mut W,
+        line: u64,
+        time: u32,
+        asked: Asked<'_>,
+    ) -> io::Result<()> {
         let Some(day) = self.day else {
             return writeln!(out, "{line}: error: expected a day before this call");
         };
@@ -184,7 +218,14 @@ impl Session {
             Ok(Answer::Ticked) => writeln!(out, "{line}: ticked"),
             Ok(Answer::Seen(view)) => print_view(out, line, view),
             Ok(Answer::Admitted) => writeln!(out, "{line}: admitted"),
-            Err(fault) => print_refusal(out, line, Refusal { code: fault.code(), place: None }),
+            Err(fault) => print_refusal(
+                out,
+                line,
+                Refusal {
+                    code: fault.code(),
+                    place: None,
+                },
+            ),
         }
     }
 }

@@ -1,13 +1,13 @@
 -- The reading of accepted marks, and the closed form.
-use mathlib.Core.Path.{_≡_, refl, sym, ap, subst, _∙_}
-use mathlib.Core.Bool.{Bool, true, false, cond, not, _&&_, _||_}
+use mathlib.Core.Path.{_≡_, refl, sym, ap, _∙_}
+use mathlib.Core.Bool.{Bool, true, false, cond, _&&_, _||_}
 use mathlib.Core.List.{List, [], _∷_}
-use Prim.Native.Nat.{ℕ, _+_, _≤_, _<_}
+use Prim.Native.Nat.{ℕ, _+_, _≤_}
 use native.Mathlib.Omega.{arith}
-use lib.Dec.{leb, ltb, eqb}
+use lib.Dec.{leb, ltb}
 use lib.ListN.{length}
 use Rattle.std.proofs.shelf.Ways.{tells}
-use Rattle.std.proofs.shelf.Tests.{cond-both, and-parts, leb-true, leb-false}
+use Rattle.std.proofs.shelf.Tests.{cond-both, and-parts, leb-true}
 use Rattle.std.specs.declared.option.Option.{Option}
 use Rattle.std.specs.declared.option.Option.the-variants.{Some, None}
 use Rattle.watches.specs.declared.state.Side.{Side}
@@ -15,10 +15,7 @@ use Rattle.watches.specs.declared.state.Side.the-variants.{Upper, Lower}
 use Rattle.watches.specs.declared.state.Kind.{Kind}
 use Rattle.watches.specs.declared.state.Kind.the-variants.{Bid, Offered, Clear}
 use Rattle.watches.specs.declared.state.AcceptedMark.{AcceptedMark}
-use Rattle.watches.specs.declared.state.Watch.{Watch}
-use Rattle.watches.specs.declared.state.Watch.the-variants.{Idle, Running}
 use Rattle.watches.specs.declared.state.Phase.{Phase}
-use Rattle.watches.specs.declared.state.Phase.the-variants.{Open, Halted}
 use Rattle.watches.specs.declared.state.Band.{Band}
 use Rattle.watches.specs.declared.state.State.{State}
 use Rattle.watches.specs.Words.{span, of, side-of}
@@ -27,7 +24,7 @@ use Rattle.watches.specs.Marking.{marked}
 use Rattle.watches.specs.Reading.{none-runs, with-mark, watch-starts, ended, level, watch-end, last-mark-of, halt-of, or-else, halt, halt-began, standing, watch-till, phase-till, read, newest, Came}
 use Rattle.watch_laws.specs.Laws.{Reads}
 use Rattle.watch_laws.specs.Playing.{is-open}
-use Rattle.watch_laws.proofs.Views.{band-of, phase-of, stands-of, phase-by, stands-by, phase-in, stands-in, view, view-moves, view-marks}
+use Rattle.watch_laws.proofs.Views.{band-of, phase-of, stands-of, phase-by, stands-by, phase-in, view, view-moves, view-marks}
 
 -- the watches that started at these moments have all ended by t, each before the next began
 abbrev pub Over : List ℕ → ℕ → Type 0

@@ -1,10 +1,8 @@
 -- A halt ends, and no other begins until a further mark.
 use mathlib.Core.Path.{_≡_, refl, sym, ap, _∙_}
-use mathlib.Core.Bool.{Bool, true, false, cond, _&&_}
 use mathlib.Core.List.{List, [], _∷_}
 use Prim.Native.Nat.{ℕ, _+_, _≤_, _<_}
 use native.Mathlib.Omega.{arith}
-use lib.Dec.{leb, ltb}
 use Rattle.std.proofs.shelf.Ways.{tells}
 use Rattle.std.specs.declared.option.Option.{Option}
 use Rattle.std.specs.declared.option.Option.the-variants.{Some, None}
@@ -21,7 +19,7 @@ use Rattle.watch_laws.specs.Laws.{Covers}
 use Rattle.watch_laws.proofs.Views.{phase-of, phase-by, phase-in}
 use Rattle.watch_laws.proofs.Bridges.{bridge}
 
--- What a phase that goes by the time says of a halt at t until e.
+-- what a phase that goes by the time says of a halt at t until e
 record Held (f : ℕ → Phase) (t e : ℕ) : Type 0 where
   ahead : t < e
   near : e ≤ t + span

@@ -14,5 +14,10 @@ worked = record {
   open-between = refl;
   upper-halts = refl;
   upper-level = refl;
+  once-upper = refl;
+  once-lower = refl;
+  once-halt = refl;
+  end-is-clear = refl;
+  next-starts = refl;
   last-level = refl;
 }

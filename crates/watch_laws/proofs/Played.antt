@@ -1,7 +1,7 @@
 -- A day played mark by mark is what the marks read.
 use mathlib.Core.Path.{_≡_, refl, sym, ap, subst, _∙_}
-use mathlib.Core.Bool.{Bool, true, false, cond, _&&_}
-use mathlib.Core.List.{List, [], _∷_, _++_, reverse}
+use mathlib.Core.Bool.{Bool, true, false, _&&_}
+use mathlib.Core.List.{List, [], _∷_, reverse}
 use Prim.Native.Nat.{ℕ, _+_, _≤_, _<_}
 use native.Mathlib.Omega.{arith}
 use native.Mathlib.Numerals.{add-one}
@@ -15,13 +15,13 @@ use Rattle.std.specs.declared.option.Option.the-variants.{Some, None}
 use Rattle.watches.specs.declared.state.AcceptedMark.{AcceptedMark}
 use Rattle.watches.specs.declared.state.State.{State}
 use Rattle.watches.specs.Words.{last-moment, timely}
-use Rattle.watches.specs.Moving.{advanced, moved}
+use Rattle.watches.specs.Moving.{moved}
 use Rattle.watches.specs.Marking.{fresh, marked}
 use Rattle.watches.specs.Reading.{halt, phase-till, read, newest, Came}
 use Rattle.watch_laws.specs.Playing.{is-open, takes-at, after-mark, none, acceptable, all-acceptable, reading}
 use Rattle.watch_laws.proofs.Bridges.{reads}
 
--- The day right after the marks, the newest first.
+-- the day right after the marks, the newest first
 abbrev pub played : ℕ → List AcceptedMark → State
 played n ms = read n ms (newest ms)
 
@@ -76,7 +76,7 @@ module _ (n : ℕ) (xs : List AcceptedMark) (t : ℕ) where
   pub all-and-timely : all-acceptable n [] xs ≡ true → timely (newest (reverse xs)) t ≡ true → reading n xs t ≡ Some (read n (reverse xs) t)
   all-and-timely p q = cond-true _ _ _ (and-from _ _ p q)
 
--- What holds of the day after the marks ms, the newest first, where xs are to come of zs in all.
+-- what holds of the day after the marks ms, the newest first, where xs are to come of zs in all
 pub record Sofar (n : ℕ) (d : State) (ms xs zs : List AcceptedMark) : Type 0 where
   pub came : Came n ms
   pub is : d ≡ played n ms

@@ -1,16 +1,15 @@
 -- Levels rise within 1 to n, and never fall.
-use mathlib.Core.Path.{_≡_, refl, sym, ap, subst, _∙_}
-use mathlib.Core.Bool.{Bool, true, false, cond, _&&_}
+use mathlib.Core.Path.{_≡_, refl}
+use mathlib.Core.Bool.{cond, _&&_}
 use mathlib.Core.List.{List, [], _∷_}
-use Prim.Native.Nat.{ℕ, _+_, _≤_, _<_}
+use Prim.Native.Nat.{ℕ, _+_, _≤_}
 use native.Mathlib.Omega.{arith}
-use lib.Dec.{leb, ltb, eqb}
+use lib.Dec.{leb, ltb}
 use lib.ListN.{length}
 use Rattle.std.proofs.shelf.Ways.{tells}
 use Rattle.std.proofs.shelf.Tests.{cond-both, and-parts, ltb-true}
 use Rattle.watches.specs.declared.state.Side.{Side}
 use Rattle.watches.specs.declared.state.AcceptedMark.{AcceptedMark}
-use Rattle.watches.specs.declared.state.Side.the-variants.{Upper, Lower}
 use Rattle.watches.specs.declared.state.Kind.{Kind}
 use Rattle.watches.specs.declared.state.Kind.the-variants.{Bid, Offered, Clear}
 use Rattle.watches.specs.declared.state.Watch.{Watch}

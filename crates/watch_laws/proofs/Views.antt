@@ -1,10 +1,10 @@
 -- A closed form of the day at t: each side from its newest start, phase and standing mark from the last mark.
-use mathlib.Core.Path.{_≡_, refl, sym, ap, subst, _∙_}
-use mathlib.Core.Bool.{Bool, true, false, cond, _&&_}
+use mathlib.Core.Path.{_≡_, refl, ap, _∙_}
+use mathlib.Core.Bool.{true, cond, _&&_}
 use mathlib.Core.List.{List, [], _∷_}
-use Prim.Native.Nat.{ℕ, _+_, _≤_, _<_}
+use Prim.Native.Nat.{ℕ, _+_, _≤_}
 use native.Mathlib.Omega.{arith}
-use lib.Dec.{leb, ltb, eqb}
+use lib.Dec.{leb, ltb}
 use lib.ListN.{length}
 use Rattle.std.proofs.shelf.Ways.{tells}
 use Rattle.std.specs.declared.option.Option.{Option}
@@ -14,7 +14,6 @@ use Rattle.watches.specs.declared.state.Side.the-variants.{Upper, Lower}
 use Rattle.watches.specs.declared.state.Kind.{Kind}
 use Rattle.watches.specs.declared.state.Kind.the-variants.{Bid, Offered, Clear}
 use Rattle.watches.specs.declared.state.AcceptedMark.{AcceptedMark}
-use Rattle.watches.specs.declared.state.Watch.{Watch}
 use Rattle.watches.specs.declared.state.Watch.the-variants.{Idle, Running}
 use Rattle.watches.specs.declared.state.Phase.{Phase}
 use Rattle.watches.specs.declared.state.Phase.the-variants.{Open, Halted}

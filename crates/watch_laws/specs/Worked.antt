@@ -24,6 +24,12 @@ cleared-late = at 120999 Clear ∷ at 60000 Clear ∷ at 1000 Offered ∷ []
 abbrev pub both-sides : List AcceptedMark
 both-sides = at 60000 Bid ∷ at 0 Offered ∷ []
 
+abbrev pub both-at-once : List AcceptedMark
+both-at-once = at 0 Bid ∷ at 0 Offered ∷ []
+
+abbrev pub marked-at-the-end : List AcceptedMark
+marked-at-the-end = at 120000 Offered ∷ at 60000 Clear ∷ at 0 Offered ∷ []
+
 abbrev pub thrice-offered : List AcceptedMark
 thrice-offered = at 600000 Offered ∷ at 300000 Offered ∷ at 0 Offered ∷ []
 
@@ -48,5 +54,12 @@ pub record Worked : Type 0 where
   pub open-between : halt 3 both-sides 179999 ≡ None
   pub upper-halts : halt 3 both-sides 180000 ≡ Some 300000
   pub upper-level : level 3 Upper both-sides 180000 ≡ 2
+  -- Two watches that end at one moment, the last mark being of the upper side.
+  pub once-upper : level 3 Upper both-at-once 120000 ≡ 2
+  pub once-lower : level 3 Lower both-at-once 120000 ≡ 2
+  pub once-halt : halt 3 both-at-once 120000 ≡ Some 240000
+  -- A mark at the end of a watch comes after that end, and so starts the next.
+  pub end-is-clear : halt 3 marked-at-the-end 120000 ≡ None
+  pub next-starts : watch-starts 3 Lower marked-at-the-end ≡ 120000 ∷ 0 ∷ []
   -- At the last level an offered mark starts no watch.
   pub last-level : watch-starts 3 Lower thrice-offered ≡ 300000 ∷ 0 ∷ []

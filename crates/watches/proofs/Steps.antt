@@ -1,9 +1,9 @@
 -- Going through the moments at which something ends.
-use mathlib.Core.Path.{_≡_, refl, sym, ap, subst, _∙_}
-use mathlib.Core.Bool.{Bool, true, false, cond, _&&_}
-use Prim.Native.Nat.{ℕ, _+_, _*_, _≤_, _<_, min}
+use mathlib.Core.Path.{_≡_, refl, sym, subst, _∙_}
+use mathlib.Core.Bool.{true, cond}
+use Prim.Native.Nat.{ℕ, _+_, _*_, _≤_, _<_}
 use native.Mathlib.Omega.{arith}
-use lib.Dec.{leb, ltb}
+use lib.Dec.{leb}
 use Rattle.std.proofs.shelf.Ways.{tells}
 use Rattle.std.proofs.shelf.Tests.{and-from, le-leb, cond-true}
 use Rattle.std.specs.declared.option.Option.{Option}
@@ -14,18 +14,18 @@ use Rattle.watches.specs.declared.state.Watch.{Watch}
 use Rattle.watches.specs.declared.state.Watch.the-variants.{Idle, Running}
 use Rattle.watches.specs.declared.state.Phase.{Phase}
 use Rattle.watches.specs.declared.state.Phase.the-variants.{Open, Halted}
-use Rattle.watches.specs.declared.state.Band.{Band}
 use Rattle.watches.specs.declared.state.State.{State}
-use Rattle.watches.specs.Words.{span, last-moment, timely}
-use Rattle.watches.specs.Sound.{runs, watch-end-or, halt-end-or, Side-sound, Halt-sound}
-use Rattle.watches.specs.Ends.{end-of, halt-end, earlier, first-end, up-to, end-by, over, risen, reopened, watched, passed, none-before, passable, pass-to}
-use Rattle.watches.specs.Moving.{phase-at, standing-at, advanced}
+use Rattle.watches.specs.Words.{span, last-moment}
+use Rattle.watches.specs.Sound.{runs, watch-end-or, halt-end-or}
+use Rattle.watches.specs.Ends.{end-of, halt-end, earlier, first-end, up-to, end-by, over, risen, reopened, watched, passed, none-before, pass-to}
+use Rattle.watches.specs.Moving.{phase-at, advanced}
 use Rattle.watches.proofs.Keeps.{Sound}
 
--- The first end, by what runs.
+-- the earliest end of two watches and a halt
 abbrev first-of : Watch → Watch → Phase → Option ℕ
 first-of u l p = earlier (earlier (end-of u) (end-of l)) (halt-end p)
 
+-- nothing ends before e
 abbrev none-ends : ℕ → Watch → Watch → Phase → Type 0
 none-ends e u l p = (e ≤ watch-end-or e u) × (e ≤ watch-end-or e l) × (e ≤ halt-end-or e p)
 
@@ -48,19 +48,18 @@ phase-same : (e : ℕ) (w : Watch) (p : Phase) → e ≤ watch-end-or e w → co
 phase-same e Idle p n = refl
 phase-same e (Running x) p n = grind (arith, tells)
 
--- Where nothing ends before a moment, passing it is moving to it.
+-- where nothing ends before a moment, passing it is moving to it
 pub passes : (e : ℕ) (d : State) → none-before e (first-end d) ≡ true → passed e d ≡ advanced d e
 passes e d q =
     let n = none-earlier e (d .upper .watch) (d .lower .watch) (d .phase) q in
     let p = phase-same e (watched d (d .standing)) (d .phase) (watched-earlier e d n (d .standing)) in
     cc
 
--- A watch that runs may bring a halt, so it counts twice.
 abbrev pub halted : Phase → ℕ
 halted Open = 0
 halted (Halted e) = 1
 
--- At most so many moments are left at which something ends.
+-- at most so many moments are left at which something ends: a watch may end in a halt, so it counts twice
 abbrev pub left : State → ℕ
 left d = 2 * runs (d .upper .watch) + 2 * runs (d .lower .watch) + halted (d .phase)
 
@@ -89,7 +88,7 @@ watched-over e d None = omega arith
 watched-over e d (Some Upper) = omega arith
 watched-over e d (Some Lower) = omega arith
 
--- Something ends at e, which is the first end and lies after the clock c.
+-- e is the first end, after the clock c and not after t, and something ends there
 record Hit (c t e : ℕ) (u l : Watch) (p : Phase) : Type 0 where
   pub ahead : c < e
   pub by : e ≤ t
@@ -116,7 +115,7 @@ passed-less e d h =
     let w = watched-over e d (d .standing) in
     omega arith
 
--- A turn of the move to t: to the first end e.
+-- one turn on the way to t: to the first end e
 pub record Turn (d : State) (t e : ℕ) : Type 0 where
   pub passed-to : pass-to e d ≡ advanced d e
   pub ahead : d .clock < e
@@ -142,7 +141,7 @@ none-by : (t : ℕ) (f : Option ℕ) → up-to t f ≡ None → none-before t f 
 none-by t None q = refl
 none-by t (Some x) q = grind (arith, tells, q)
 
--- Where nothing ends up to t any more, t is the next moment.
+-- where nothing ends up to t any more, t is the next moment
 pub rest : (d : State) (t : ℕ) → d .clock ≤ t → t ≤ last-moment → end-by d t ≡ None → pass-to t d ≡ advanced d t
 rest d t c h q =
     let n = none-by t (first-end d) q in

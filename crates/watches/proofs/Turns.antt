@@ -1,10 +1,9 @@
 -- One end after another, in order of time, leads where the move at once does.
-use mathlib.Core.Path.{_≡_, refl, sym, ap, subst, _∙_}
+use mathlib.Core.Path.{_≡_, refl, ap, subst, _∙_}
 use mathlib.Core.Bool.{Bool, true, false, cond}
-use mathlib.Core.Logic.{_⊎_, inl, inr, ⊎-elim}
-use Prim.Native.Nat.{ℕ, zero, suc, _+_, _*_, _≤_, _<_}
+use mathlib.Core.Logic.{inl, inr}
+use Prim.Native.Nat.{ℕ, zero, suc, _+_, _≤_, _<_}
 use native.Mathlib.Omega.{arith}
-use lib.Dec.{leb}
 use Rattle.std.proofs.shelf.Ways.{tells}
 use Rattle.std.proofs.shelf.Tests.{cases-lt}
 use Rattle.watches.specs.declared.state.Side.the-variants.{Upper, Lower}
@@ -17,7 +16,7 @@ use Rattle.watches.specs.Words.{span}
 use Rattle.watches.specs.Sound.{runs, watch-end-or, halt-end-or}
 use Rattle.watches.specs.Ends.{over, reopened}
 use Rattle.watches.specs.Moving.{advanced}
-use Rattle.watches.specs.Order.{Ends, upper-watch, lower-watch, halt, First, Moves, rest, upper, lower, stands, end-watch, end-halt, waited, In-order}
+use Rattle.watches.specs.Order.{upper-watch, lower-watch, halt, First, Moves, rest, upper, lower, stands, end-watch, end-halt, waited, In-order}
 use Rattle.watches.proofs.Steps.{halted, left}
 
 upper-same : (t e : ℕ) (d : State) → d .upper .watch ≡ Running e → e ≤ t → advanced (end-watch Upper e d) t ≡ advanced d t
@@ -77,6 +76,7 @@ bound t e d a b c x (upper-watch w) = let r = ap (watch-end-or (t + 1)) w in ome
 bound t e d a b c x (lower-watch w) = let r = ap (watch-end-or (t + 1)) w in omega (arith, r)
 bound t e d a b c x (halt w) = let r = ap (halt-end-or (t + 1)) w in omega (arith, r)
 
+-- what comes next on the way to t
 data Next (t : ℕ) (d : State) : Type 0 where
   none : First d (t + 1) → Next t d
   up : (e : ℕ) → d .upper .watch ≡ Running e → e ≤ t → First d e → Next t d
@@ -92,16 +92,16 @@ next t d =
     let L : (b ≤ t) → b ≤ a → b ≤ c → Next t d = λ h x y. low b (run t (d .lower .watch) h) h (bound t b d x (omega arith) y) in
     let H : (c ≤ t) → c ≤ a → c ≤ b → Next t d = λ h x y. reopen c (stop t (d .phase) h) h (bound t c d x y (omega arith)) in
     let N : t < a → t < b → t < c → Next t d = λ x y z. none (bound t (t + 1) d (omega arith) (omega arith) (omega arith)) in
-    ⊎-elim
-    (λ ta. ⊎-elim
-    (λ tb. ⊎-elim (λ tc. N ta tb tc) (λ ct. H ct (omega arith) (omega arith)) (cases-lt t c))
-    (λ bt. ⊎-elim (λ bc. L bt (omega arith) (omega arith)) (λ cb. H (omega arith) (omega arith) cb) (cases-lt b c))
-    (cases-lt t b))
-    (λ at. ⊎-elim
-    (λ ab. ⊎-elim (λ ac. U at (omega arith) (omega arith)) (λ ca. H (omega arith) ca (omega arith)) (cases-lt a c))
-    (λ ba. ⊎-elim (λ bc. L (omega arith) ba (omega arith)) (λ cb. H (omega arith) (omega arith) cb) (cases-lt b c))
-    (cases-lt a b))
-    (cases-lt t a)
+    elim (cases-lt t a) [
+      | inl ta ↦ elim (cases-lt t b) [
+        | inl tb ↦ elim (cases-lt t c) [ inl tc ↦ N ta tb tc | inr ct ↦ H ct (omega arith) (omega arith) ]
+        | inr bt ↦ elim (cases-lt b c) [ inl bc ↦ L bt (omega arith) (omega arith) | inr cb ↦ H (omega arith) (omega arith) cb ]
+      ]
+      | inr at ↦ elim (cases-lt a b) [
+        | inl ab ↦ elim (cases-lt a c) [ inl ac ↦ U at (omega arith) (omega arith) | inr ca ↦ H (omega arith) ca (omega arith) ]
+        | inr ba ↦ elim (cases-lt b c) [ inl bc ↦ L (omega arith) ba (omega arith) | inr cb ↦ H (omega arith) (omega arith) cb ]
+      ]
+    ]
 
 comes : (k t : ℕ) (d : State) → left d ≤ k → Next t d → (f : State) × Moves t d f
 comes k t d s (none q) = (waited t d, rest q)

@@ -1,9 +1,8 @@
 -- A move in two parts is a move.
 use mathlib.Core.Path.{_≡_, refl, sym, ap, _∙_}
-use mathlib.Core.Bool.{Bool, true, false, cond}
-use Prim.Native.Nat.{ℕ, _+_, _≤_, _<_}
+use mathlib.Core.Bool.{cond}
+use Prim.Native.Nat.{ℕ, _+_, _≤_}
 use native.Mathlib.Omega.{arith}
-use lib.Dec.{leb}
 use Rattle.std.proofs.shelf.Ways.{tells}
 use Rattle.std.proofs.shelf.Tests.{cond-both, cond-true}
 use Rattle.std.specs.declared.option.Option.{Option}
@@ -20,7 +19,7 @@ use Rattle.watches.specs.Words.{span}
 use Rattle.watches.specs.Ends.{over, risen, reopened, watched}
 use Rattle.watches.specs.Moving.{phase-at, standing-at, advanced, Twice}
 
--- A watch at t, once it may have ended.
+-- a watch at t, once it may have ended
 abbrev left : ℕ → Watch → Watch
 left t w = cond (over t w) Idle w
 
@@ -45,7 +44,7 @@ risen-left : (t l : ℕ) (w : Watch) → risen t (record { level = l; watch = w 
 risen-left t l Idle = refl
 risen-left t l (Running e) = grind (arith, tells)
 
--- The watch of the standing mark after a move.
+-- the watch of the standing mark after a move
 watched-left : (t : ℕ) (d : State) (s : Option Side) → watched (advanced d t) (standing-at t (watched d s) s) ≡ left t (watched d s)
 watched-left t d None = refl
 watched-left t d (Some Upper) =

@@ -1,18 +1,18 @@
 -- A day moved to any later time at once, whatever ends on the way.
 use mathlib.Core.Path.{_≡_}
-use mathlib.Core.Bool.{Bool, cond}
+use mathlib.Core.Bool.{true, cond}
 use Prim.Native.Nat.{ℕ, _+_, _≤_}
 use lib.Dec.{leb}
 use Rattle.std.specs.declared.option.Option.{Option}
-use Rattle.std.specs.declared.option.Option.the-variants.{Some, None}
+use Rattle.std.specs.declared.option.Option.the-variants.{None}
 use Rattle.watches.specs.declared.state.Side.{Side}
 use Rattle.watches.specs.declared.state.Watch.{Watch}
 use Rattle.watches.specs.declared.state.Watch.the-variants.{Idle, Running}
 use Rattle.watches.specs.declared.state.Phase.{Phase}
-use Rattle.watches.specs.declared.state.Phase.the-variants.{Open, Halted}
+use Rattle.watches.specs.declared.state.Phase.the-variants.{Halted}
 use Rattle.watches.specs.declared.state.State.{State}
 use Rattle.watches.specs.Words.{span, timely}
-use Rattle.watches.specs.Ends.{over, risen, reopened, watched}
+use Rattle.watches.specs.Ends.{over, risen, reopened, watched, passed, passable}
 
 -- The phase at t, where w is the watch of the side whose mark stands.
 abbrev pub phase-at : ℕ → Watch → Phase → Phase
@@ -39,3 +39,7 @@ moved d t = cond (timely (d .clock) t) (advanced d t) d
 -- To move to u by way of an earlier time is to move to u.
 abbrev pub Twice : State → ℕ → Type 0
 Twice d u = (t : ℕ) → t ≤ u → advanced (advanced d t) u ≡ advanced d u
+
+-- To pass a moment before which nothing ends is to move to it.
+abbrev pub Pass-moves : State → ℕ → Type 0
+Pass-moves d e = passable e d ≡ true → passed e d ≡ advanced d e

@@ -15,7 +15,6 @@ use Rattle.watches.specs.declared.state.Watch.{Watch}
 use Rattle.watches.specs.declared.state.Watch.the-variants.{Idle, Running}
 use Rattle.watches.specs.declared.state.Phase.{Phase}
 use Rattle.watches.specs.declared.state.Phase.the-variants.{Open, Halted}
-use Rattle.watches.specs.declared.state.Band.{Band}
 use Rattle.watches.specs.declared.state.State.{State}
 use Rattle.watches.specs.Words.{span, of, side-of}
 

@@ -7,7 +7,7 @@ use Rattle.watches.specs.declared.state.Phase.the-variants.{Open, Halted}
 use Rattle.watches.specs.declared.state.Band.{Band}
 use Rattle.watches.specs.Words.{span}
 
--- How many watches run: the level that a side reaches once its watch has ended is its level and this.
+-- 1 for a watch that runs: with it a side's level is the one that it has once the watch has ended.
 abbrev pub runs : Watch → ℕ
 runs Idle = 0
 runs (Running e) = 1
@@ -21,6 +21,7 @@ abbrev pub halt-end-or : ℕ → Phase → ℕ
 halt-end-or z Open = z
 halt-end-or z (Halted e) = e
 
+-- A level is at least 1 and fits a byte, also once the watch has ended.
 abbrev pub Side-sound : ℕ → Band → Type 0
 Side-sound clock b =
     (1 ≤ b .level) × (b .level + runs (b .watch) ≤ 255)

@@ -56,7 +56,7 @@ impl State {
 }
 
 impl Watches {
-    /// Takes an accepted mark at the clock, where there are so many levels.
+    /// Takes a mark at the clock, where there are so many levels. That it is accepted is the caller's to say.
     pub fn mark(&mut self, kind: Kind, levels: u8)
         ensures { λ _. ⌜ now (self .exit) .state ≡ marked levels (now (self .entry) .state) kind ⌝ }
     {

@@ -1,7 +1,6 @@
-ghost use mathlib.Core.Bool.{true};
 ghost use mathlib.Core.Path.{_≡_};
-ghost use Rattle.watches.specs.Ends.{end-by, passable, passed, pass-to};
-ghost use Rattle.watches.specs.Moving.{advanced, moved, Twice};
+ghost use Rattle.watches.specs.Ends.{end-by, passable, pass-to};
+ghost use Rattle.watches.specs.Moving.{moved, Twice, Pass-moves};
 ghost use Rattle.watches.specs.Order.{In-order};
 ghost use Rattle.watches.specs.Words.{timely};
 use super::Watches;
@@ -39,7 +38,7 @@ impl Watches {
     /// changes nothing.
     pub fn pass(&mut self, moment: u32)
         ensures state { λ _. ⌜ now (self .exit) .state ≡ pass-to moment (now (self .entry) .state) ⌝ }
-        ensures moves { λ _. ⌜ (passable moment (now (self .entry) .state) ≡ true → passed moment (now (self .entry) .state) ≡ advanced (now (self .entry) .state) moment) ⌝ }
+        ensures moves { λ _. ⌜ (Pass-moves (now (self .entry) .state) moment) ⌝ }
     {
         if self.is_next(moment) {
             self.state = self.state.at_moment(moment);

@@ -1,19 +1,20 @@
+use borrow.Author.Needs.{needs}
 use mathlib.Core.Path.{_≡_, sym, ap, subst, _∙_}
 use mathlib.Core.Bool.{true, false}
-use mathlib.Core.List.{List, [], reverse}
+use mathlib.Core.List.{[], reverse}
 use Prim.Native.Nat.{_+_}
 use lib.ListN.{getD, take, drop}
-use Rattle.std.specs.declared.option.Option.{Option}
-use Rattle.std.specs.declared.option.Option.the-variants.{Some, None}
+use Rattle.std.specs.declared.option.Option.the-variants.{Some}
 use Rattle.watches.specs.declared.state.AcceptedMark.{AcceptedMark}
 use Rattle.watches.specs.declared.state.Kind.the-variants.{Bid}
 use Rattle.watches.specs.declared.state.State.{State}
 use Rattle.watches.specs.Words.{timely}
+use Rattle.watches.specs.Moving.{moved}
 use Rattle.watches.specs.Reading.{newest}
 use Rattle.watch_laws.specs.Playing.{takes-at}
 use Rattle.watch_laws.proofs.All.{laws}
 use Rattle.watch_laws.proofs.Examples.{worked}
-use Rattle.watch_laws.proofs.Played.{Sofar, Done, begun, goes-on, breaks-off, done, moved-on, not-all, not-timely, all-and-timely}
+use Rattle.watch_laws.proofs.Played.{Sofar, begun, goes-on, breaks-off, done, moved-on, not-all, not-timely, all-and-timely}
 use Rattle.watch_laws.proofs.reading.read_marks.Needs as need
 
 abbrev none-yet : AcceptedMark
@@ -30,7 +31,7 @@ loop-mark-again c =
     let d = c .loop-mark .day .state in
     let xs = c .args .marks .now in
     let i = c .loop-mark .mark-index in
-    let q : takes-at d (getD xs i none-yet) ≡ true = sym (c .if-not-accept .ensures tt .answer) in
+    let q : takes-at d (getD xs i none-yet) ≡ true = sym (c .accept .ensures .answer) ∙ c .if-not-accept .left in
     subst (λ (d : State). Sofar n d (reverse (take (i + 1) xs)) (drop (i + 1) xs) xs) (sym (c .accept .ensures .state))
     (goes-on n d i xs none-yet (c .loop-mark-test .taken) (c .loop-mark .inv) q)
 
@@ -40,7 +41,7 @@ returns-then-not-accept c =
     let d = c .loop-mark .day .state in
     let xs = c .args .marks .now in
     let i = c .loop-mark .mark-index in
-    let q : takes-at d (getD xs i none-yet) ≡ false = sym (c .if-not-accept .ensures tt .answer) in
+    let q : takes-at d (getD xs i none-yet) ≡ false = sym (c .accept .ensures .answer) ∙ c .if-not-accept .taken in
     record {
       answer = sym (not-all n xs (c .args .time) (breaks-off n d i xs none-yet (c .loop-mark-test .taken) (c .loop-mark .inv) q));
       laws = laws n;
@@ -67,9 +68,9 @@ returns c =
     let d = c .loop-mark .day .state in
     let all = done n d (c .loop-mark .mark-index) xs (c .loop-mark-test .left) (c .loop-mark .inv) in
     let q : timely (newest (reverse xs)) t ≡ true = ap (λ (d : State). timely (d .clock) t) (sym (all .is)) ∙ sym (c .if-not-is-timely .ensures tt) in
-    let s = c .state .ensures ∙ c .move-to .ensures .state ∙ moved-on n d xs t all q in
+    let to : c .state .result ≡ moved d t = search needs in
     record {
-      answer = ap (λ (x : State). Some x) s ∙ sym (all-and-timely n xs t (all .all) q);
+      answer = ap (λ (x : State). Some x) (to ∙ moved-on n d xs t all q) ∙ sym (all-and-timely n xs t (all .all) q);
       laws = laws n;
       worked = worked;
     }

@@ -1,13 +1,12 @@
 use borrow.Author.Needs.{needs}
-use mathlib.Core.Path.{_≡_, sym, subst}
-use mathlib.Core.Bool.{true}
+use mathlib.Core.Path.{sym, subst}
 use Prim.Native.Nat.{ℕ}
 use lib.Dec.{leb}
 use Rattle.std.proofs.shelf.Tests.{and-parts, leb-true}
 use Rattle.watches.specs.declared.state.State.{State}
 use Rattle.watches.specs.Words.{last-moment, timely}
-use Rattle.watches.specs.Ends.{none-before, first-end, passable, passed}
-use Rattle.watches.specs.Moving.{advanced}
+use Rattle.watches.specs.Ends.{none-before, first-end}
+use Rattle.watches.specs.Moving.{Pass-moves}
 use Rattle.watches.proofs.Keeps.{Sound, passed-sound}
 use Rattle.watches.proofs.Steps.{passes}
 use Rattle.watches.proofs.watches.Watches.pass.Needs as need
@@ -23,7 +22,7 @@ ghost-self c =
     (passed-sound e d (leb-true _ _ (b .0)) (leb-true _ _ (b .1)) (s .within, (s .upper, (s .lower, (s .halt, tt)))))
 
 -- a moment that is next is moved to
-next-moves : (e : ℕ) (d : State) → passable e d ≡ true → passed e d ≡ advanced d e
+next-moves : (e : ℕ) (d : State) → Pass-moves d e
 next-moves e d q = passes e d (and-parts (timely (d .clock) e) (none-before e (first-end d)) q .1)
 
 pub returns-then-is-next : need.returns-then-is-next
