@@ -3,6 +3,7 @@
 
     python3 model/limitday.py < SCRIPT
 """
+import copy
 import re
 import sys
 
@@ -393,6 +394,7 @@ FORMS = {
     "mark": "mark T bid|offered|clear PRICE",
     "tick": "tick T",
     "look": "look T",
+    "replay": "replay T",
     "future": "future T CODE PRICE",
 }
 
@@ -507,6 +509,11 @@ class Session:
             self.day = None
             self.day = Day(self.rule, self.reference[0] if stated is None else stated)
             return [f"opened at {show_price(self.day.p)}"]
+        if verb == "replay":
+            (t,) = map(number, words)
+            if self.day is None:
+                return ["error: expected a day before this call"]
+            return [copy.deepcopy(self.day).look(t)]
         if verb in ("mark", "tick", "look", "future"):
             t, *words = words
             t = number(t)

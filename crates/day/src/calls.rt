@@ -65,8 +65,8 @@ impl<R: LimitRule> Day<R> {
         self.move_to(time)
     }
 
-    // What the day shows at its clock.
-    fn view(&self) -> View
+    /// What the day shows at its clock.
+    pub fn view(&self) -> View
         ensures { λ r. ⌜ r ≡ seen (R·LimitRule .means (now (self .entry) .rule)) (now (self .entry) .price) (now (self .entry) .watches .state) ⌝ }
     {
         let state = self.watches.state();

@@ -50,6 +50,13 @@ impl<R: LimitRule> Day<R> {
         self.price // hundredths of a point
     }
 
+    /// The time that the day has moved to.
+    pub fn clock(&self) -> u32
+        ensures { λ r. ⌜ r ≡ now (self .entry) .watches .state .clock ⌝ }
+    {
+        self.watches.state().clock
+    }
+
     // The limits and edges at the clock.
     pub(crate) fn bounds(&self) -> Bounds
         ensures { λ r. ⌜ r ≡ boundsOf (R·LimitRule .means (now (self .entry) .rule)) (now (self .entry) .price) (now (self .entry) .watches .state) ⌝ }

@@ -28,6 +28,7 @@ pub const CALLS: &str =
   mark T bid|offered|clear PRICE           the primary month is limit bid, limit offered or neither
   tick T                                   move the day to a time
   look T                                   limits, edges, levels, mark, watches and halt
+  replay T                                 the same, of a day given all calls since open once more
   future T CODE PRICE                      an order in a futures month
 
 Prices are in points with at most two decimals, times in milliseconds. A blank line and one
@@ -54,6 +55,7 @@ pub enum Verb {
     Mark,
     Tick,
     Look,
+    Replay,
     Future,
 }
 
@@ -79,6 +81,7 @@ impl Verb {
             "mark" => Some(Verb::Mark),
             "tick" => Some(Verb::Tick),
             "look" => Some(Verb::Look),
+            "replay" => Some(Verb::Replay),
             "future" => Some(Verb::Future),
             _ => None,
         }
@@ -107,6 +110,7 @@ impl Verb {
             Verb::Mark => "mark T bid|offered|clear PRICE",
             Verb::Tick => "tick T",
             Verb::Look => "look T",
+            Verb::Replay => "replay T",
             Verb::Future => "future T CODE PRICE",
         }
     }
@@ -195,4 +199,5 @@ pub enum Call<'a> {
     DropSeries(SeriesWords<'a>),
     Open(Start),
     Ask(u32, Asked<'a>),
+    Replay(u32),
 }

@@ -279,6 +279,10 @@ fn read_asked<'a>(verb: Verb, words: &mut SplitWhitespace<'a>) -> Option<Call<'a
     Some(Call::Ask(time, asked))
 }
 
+fn read_replay<'a>(words: &mut SplitWhitespace<'a>) -> Option<Call<'a>> {
+    Some(Call::Replay(number(words)?))
+}
+
 // The call that the words behind its verb make, if they have its form.
 pub fn read_call<'a>(
     heap: Global,
@@ -298,6 +302,7 @@ pub fn read_call<'a>(
         Verb::Offset => read_offset(words),
         Verb::Places => read_places(words),
         Verb::Open => read_open(words),
+        Verb::Replay => read_replay(words),
         Verb::Mark | Verb::Tick | Verb::Look | Verb::Future => read_asked(verb, words),
         Verb::Month | Verb::DropMonth | Verb::Series | Verb::DropSeries => read_listing(
             verb,

@@ -2,6 +2,8 @@
 use super::calls::Call;
 use super::calls::Verb;
 use super::day_calls::AnyDay;
+use super::day_calls::Given;
+use super::day_calls::Opening;
 use super::reading::read_call;
 use super::roster_calls::MOST_PLACES;
 use super::roster_calls::Rosters;
@@ -26,6 +28,8 @@ pub struct Session {
     pub(super) rule: Option<Rule>,
     pub(super) rosters: Rosters,
     pub(super) day: Option<AnyDay>,
+    pub(super) opening: Option<Opening>,
+    pub(super) given: Vec<Given>,
 }
 
 pub(super) fn print_refusal<W: Write>(out: &mut W, line: u64, refusal: Refusal) -> io::Result<()> {
@@ -43,6 +47,8 @@ impl Session {
             rule: None,
             rosters: Rosters::new(heap, MOST_PLACES, MOST_PLACES)?,
             day: None,
+            opening: None,
+            given: Vec::new(heap),
         })
     }
 
@@ -71,6 +77,7 @@ impl Session {
             Call::DropSeries(words) => self.rosters.drop_series(out, line, words),
             Call::Open(start) => self.open_day(out, line, start),
             Call::Ask(time, asked) => self.ask(out, line, time, asked),
+            Call::Replay(time) => self.replay(out, line, time),
         }
     }
 }
