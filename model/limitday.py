@@ -1,5 +1,5 @@
 #!/usr/bin/env python3
-"""An independent model of limitday: plays the same scripts from docs/ alone, to compare answers with.
+"""A model of limitday, with no code in common: plays the same scripts by the rules of docs/, to compare answers with.
 
     python3 model/limitday.py < SCRIPT
 """
