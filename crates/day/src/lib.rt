@@ -1,4 +1,6 @@
 //! One trading day under any limit rule: opening, marks, ticks, looks and orders.
+#![tactic(auto)]
+
 mod calls;
 mod day;
 mod fault;

@@ -1,4 +1,6 @@
 //! Tests of the day that a script cannot reach.
+#![tactic(auto)]
+
 ghost use Rattle.day_tests.specs.Closed.{closed};
 ghost use Rattle.std.proofs.Common.{rules};
 

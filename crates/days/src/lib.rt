@@ -1,4 +1,6 @@
 //! Calls on a trading day as values, and whole runs of them.
+#![tactic(auto)]
+
 mod answer;
 mod call;
 mod giving;

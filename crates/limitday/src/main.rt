@@ -1,4 +1,6 @@
 // Plays a script of calls and prints one answer line for each.
+#![tactic(auto)]
+
 mod calls;
 mod day_calls;
 mod kept_calls;

@@ -1,4 +1,6 @@
 //! The promise about two days of one rule and one reference request, and the edge cases of the rules.
+#![tactic(auto)]
+
 mod edges;
 mod pair;
 mod plan;

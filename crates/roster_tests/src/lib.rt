@@ -1,4 +1,6 @@
 // Tests of codes, listings and the roster on examples.
+#![tactic(auto)]
+
 #[cfg(test)]
 mod tests {
     use listings::code::{MonthCode, month_of};

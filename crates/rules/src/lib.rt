@@ -1,4 +1,6 @@
 //! The three named limit rules.
+#![tactic(auto)]
+
 mod daily;
 mod fault;
 mod monthly;

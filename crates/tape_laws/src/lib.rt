@@ -1,3 +1,5 @@
+#![tactic(auto)]
+
 pub mod both;
 pub mod copy;
 pub mod write;

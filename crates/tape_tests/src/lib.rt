@@ -1,4 +1,6 @@
 // Tests of the tape: a worked record byte by byte, full buffers, and the longest tape.
+#![tactic(auto)]
+
 #[cfg(test)]
 mod tests {
     use std::test::Fail;

@@ -1,4 +1,6 @@
 // How the words of a script read and print: numbers, prices, symbols, bytes and refusals.
+#![tactic(auto)]
+
 mod hex;
 mod numbers;
 mod prices;

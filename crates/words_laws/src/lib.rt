@@ -1,4 +1,6 @@
 // What is printed reads back: each call prints a value and reads the text again.
+#![tactic(auto)]
+
 ghost use Rattle.std.specs.Prelude.{◌≡◌, IfOk, Some, vec_items};
 ghost use Rattle.std.specs.Option.{option_map};
 ghost use Rattle.words_laws.specs.Examples.{Examples};

@@ -7,5 +7,5 @@ returns g c =
     let m = g.R.LimitRule.means c.args.rule.now in
     let law = g.met.R.LimitRule.lawful c.args.rule.now in
     let price = c.args.price in
-    let is : c.is-some.result ≡ m.takes price = search rules in
+    let is : c.is_some.result ≡ m.takes price = search rules in
     record { answer = is; graded = λ t. graded m price (law.at price (sym is ∙ t)) }

@@ -23,10 +23,10 @@ returns g c =
     let price = c.args.price in
     let fits : tick < 2 ^ 32 = omega arith in
     let made : Bounds = record {
-      lower = price - c.distance-to.result;
-      upper = price + c.distance-to-2.result;
-      lower_edge = c.multiple-above-lower-edge.result;
-      upper_edge = c.multiple-below-upper-edge.result;
+      lower = price - c.distance_to.result;
+      upper = price + c.distance_to-2.result;
+      lower_edge = c.multiple_above-lower_edge.result;
+      upper_edge = c.multiple_below-upper_edge.result;
     } in
     let is : made ≡ bounds m tick price c.args.lower_level c.args.upper_level = search rules in
     record {
