@@ -9,11 +9,11 @@ use Rattle.roster_laws.proofs.changes.apply_changes.Goals as goal
 pub loop-change-preserved : goal.loop-change-preserved
 loop-change-preserved g c =
     let inv = c.loop-change.invariant in
-    let e = c.make-change.ensures in
+    let e = c.make_change.ensures in
     let room = ap room_in inv.3 in (
       inv.0 ∙ sym e.lender,
       fold_step (changed g.L.Listing.sound g.L.Listing.same) _ _ _ _ _ _ _ _ c.loop-change-test.true c.change-item.is room inv.1 e.entries,
-      ap (λ (n : ℕ). drop n c.make-change.new.roster.places.now) (sym room) ∙ e.beyond ∙ ap (λ (n : ℕ). drop n c.loop-change.roster.places.now) room ∙ inv.2,
+      ap (λ (n : ℕ). drop n c.make_change.new.roster.places.now) (sym room) ∙ e.beyond ∙ ap (λ (n : ℕ). drop n c.loop-change.roster.places.now) room ∙ inv.2,
       e.lent ∙ inv.3,
     )
 

@@ -12,10 +12,10 @@ count_put : (n : ℕ) (r : Plain) (o : Outcome) → count n (put r o) ≡ count 
 count_put n r (sound rs) = ap Ok (omega arith)
 count_put n r (faulty e) = refl
 
-pub returns-in-err-reader : goal.returns-in-err-reader
-returns-in-err-reader c =
+pub returns-in_err-reader : goal.returns-in_err-reader
+returns-in_err-reader c =
     let xs = c.args.tape.now in
-    let p = err_from_is_err_and c.from-residual.result c.from-residual.ensures.1 in
+    let p = err_from_is_err_and c.from_residual.result c.from_residual.ensures.1 in
     let is = p.1 ∙ ap Err p.2 in
     let counts = ap (refusing tape_refusal) is ∙ ap (count 0) (sym c.in-err-reader.ensures) in
     record { counts = counts; means = verdict xs _ (bytes_all xs (λ i. (c.type-inv.tape i).fits)) counts }
@@ -41,12 +41,12 @@ comes c =
 pub loop-records-smaller : goal.loop-records-smaller
 loop-records-smaller c = let k = comes c in omega (arith, k.moved, k.fits)
 
-pub returns-in-err-next : goal.returns-in-err-next
-returns-in-err-next c =
+pub returns-in_err-next : goal.returns-in_err-next
+returns-in_err-next c =
     let xs = c.args.tape.now in
     let at = c.loop-records.reader.at in
     let last = c.loop-records.reader.last in
-    let p = err_from_is_err_and c.from-residual-in-err-next.result c.from-residual-in-err-next.ensures.1 in
+    let p = err_from_is_err_and c.from_residual-in_err-next.result c.from_residual-in_err-next.ensures.1 in
     let is = p.1 ∙ ap Err p.2 in
     let s = c.in-err-next.ensures.gives ∙ ap (λ l. step (drop at l) at last) c.loop-records.invariant.0 in
     let counts = ap (refusing tape_refusal) is ∙ failed count _ xs c.loop-records.records at last _ c.loop-records.invariant.3 (sym s) in

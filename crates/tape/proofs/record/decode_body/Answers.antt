@@ -7,7 +7,7 @@ unfolding decode
 returns c =
     let rest = take_rest c.args.body.now 13 in
     let j = c.judged.ensures in
-    let t = c.from-be-bytes-time.ensures in
-    let a = c.from-be-bytes-first.ensures in
-    let b = c.from-be-bytes-second.ensures in
+    let t = c.from_be_bytes-time.ensures in
+    let a = c.from_be_bytes-first.ensures in
+    let b = c.from_be_bytes-second.ensures in
     cc

@@ -13,6 +13,6 @@ returns c =
     let two = splice_two c.args.at (head r) (symbol_of r) c.args.buffer.now room in
     let a = c.put.ensures in
     let b = c.put-2.ensures in
-    let h = c.head-of-head.ensures in
+    let h = c.head_of-head.ensures in
     let s = c.symbol.ensures in
     cc

@@ -7,6 +7,6 @@ use Rattle.words.proofs.hex.read_bytes.Goals as goal
 
 pub returns : goal.returns
 returns c =
-    let same = ap pairs c.as-bytes.ensures.value
-    ∙ no_dash c.args.word.now c.if-is-empty.ensures (λ e. both_ways _ c.if-eq.false (c.eq.ensures.1 e)) in
-    IfOk-weaker c.read-pairs.result _ _ (λ o e. e ∙ same) c.read-pairs.ensures
+    let same = ap pairs c.as_bytes.ensures.value
+    ∙ no_dash c.args.word.now c.if-is_empty.ensures (λ e. both_ways _ c.if-eq.false (c.eq.ensures.1 e)) in
+    IfOk-weaker c.read_pairs.result _ _ (λ o e. e ∙ same) c.read_pairs.ensures

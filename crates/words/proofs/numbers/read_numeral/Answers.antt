@@ -5,5 +5,5 @@ use Rattle.words.proofs.numbers.read_numeral.Goals as goal
 
 pub returns : goal.returns
 returns c =
-    let begins = starts_char 43 c.args.word.now _ c.starts-with.ensures.cases (omega arith) (omega arith) in
-    c.ok.ensures.value ∙ reads 64 c.args.word.now c.parse.result c.parse.ensures.value.0 (plain c.args.word.now _ begins c.if-starts-with.false)
+    let begins = starts_char 43 c.args.word.now _ c.starts_with.ensures.cases (omega arith) (omega arith) in
+    c.ok.ensures.value ∙ reads 64 c.args.word.now c.parse.result c.parse.ensures.value.0 (plain c.args.word.now _ begins c.if-starts_with.false)

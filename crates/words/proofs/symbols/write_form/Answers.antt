@@ -7,7 +7,7 @@ use Rattle.words.proofs.symbols.write_form.Goals as goal
 pub returns : goal.returns
 returns g c = search (rules, encode_ascii)
 
-pub returns-then-is-plain : goal.returns-then-is-plain
-returns-then-is-plain g c plain ok =
-    has_written_of_eq g.W.Write.write_str_gives _ _ _ _ (plain_form c.args.byte (sym c.if-is-plain.ensures))
-    (c.write-char.ensures.writes plain ok)
+pub returns-then-is_plain : goal.returns-then-is_plain
+returns-then-is_plain g c plain ok =
+    has_written_of_eq g.W.Write.write_str_gives _ _ _ _ (plain_form c.args.byte (sym c.if-is_plain.ensures))
+    (c.write_char.ensures.writes plain ok)

@@ -5,13 +5,13 @@ use Rattle.limits.specs.declared.bounds.Bounds.{Bounds}
 use Rattle.limits.proofs.Offsets.{distance_under, distance_fits, edges, widens}
 use Rattle.limits.proofs.bounds.Bounds.around.Goals as goal
 
-pub overflow-sub-lower : goal.overflow-sub-lower
-overflow-sub-lower g c =
+pub overflow_sub-lower : goal.overflow_sub-lower
+overflow_sub-lower g c =
     let law = g.met.R.LimitRule.lawful c.args.rule.now in
     omega (arith, distance_under _ law c.args.price c.args.lower_level)
 
-pub overflow-add-upper : goal.overflow-add-upper
-overflow-add-upper g c =
+pub overflow_add-upper : goal.overflow_add-upper
+overflow_add-upper g c =
     let law = g.met.R.LimitRule.lawful c.args.rule.now in
     omega (arith, distance_fits _ law c.args.price (omega arith) c.args.upper_level)
 

@@ -5,11 +5,11 @@ use Rattle.rules.specs.Figures.{close_sound}
 use Rattle.rules.proofs.Closes.{sound_next, unsound_here, sound_end, sum_end, in_range}
 use Rattle.rules.proofs.quarterly.Quarterly.from_closes.Goals as goal
 
-pub returns-then-not-close-sound : goal.returns-then-not-close-sound
-returns-then-not-close-sound c =
+pub returns-then-not-close_sound : goal.returns-then-not-close_sound
+returns-then-not-close_sound c =
     let xs = c.args.closes.now in
     let i = c.loop-close.close-index in
-    let bad : close_sound (get_or xs i 0) ≡ false = sym c.close-sound.ensures ∙ c.if-not-close-sound.true in
+    let bad : close_sound (get_or xs i 0) ≡ false = sym c.close_sound.ensures ∙ c.if-not-close_sound.true in
     (and_right _ _ (sym c.loop-close.invariant.1 ∙ unsound_here xs i c.loop-close-test.true bad), refl, refl)
 
 pub loop-close-preserved : goal.loop-close-preserved
@@ -18,7 +18,7 @@ loop-close-preserved c =
     let i = c.loop-close.close-index in
     let h = c.loop-close-test.true in
     let inv = c.loop-close.invariant in
-    let good : close_sound (get_or xs i 0) ≡ true = sym c.close-sound.ensures ∙ c.if-not-close-sound.false in
+    let good : close_sound (get_or xs i 0) ≡ true = sym c.close_sound.ensures ∙ c.if-not-close_sound.false in
     let range = in_range (get_or xs i 0) good in
     (omega (arith, sum_by-drop_more (λ x. x) xs i 0 h), sound_next xs i h good ∙ inv.1, omega arith, omega arith)
 

@@ -18,7 +18,7 @@ module _ (c : goal.After-pass) where
       let s = c.loop-moment.self in
       let is : end_by s.state c.args.time ≡ Some c.in-Some.moment = search rules in
       turn s.state c.args.time c.in-Some.moment (s.within, (s.upper, (s.lower, (s.halt, tt))))
-      (of_the_day _ _ (sym c.if-not-is-timely.ensures)) is
+      (of_the_day _ _ (sym c.if-not-is_timely.ensures)) is
 
 pub loop-moment-smaller : goal.loop-moment-smaller
 loop-moment-smaller c = subst (λ (x : State). left x < left c.loop-moment.self.state) (sym c.pass.ensures.state) (here c).less
@@ -35,7 +35,7 @@ loop-moment-preserved c =
 pub returns : goal.returns
 returns c =
     let d = c.loop-moment.self.state in
-    let e = sym c.if-not-is-timely.ensures in
+    let e = sym c.if-not-is_timely.ensures in
     let none_left : end_by d c.args.time ≡ None = search rules in
     record {
       state =
@@ -47,8 +47,8 @@ returns c =
       twice = twice c.args.self.now.state c.args.time;
     }
 
-pub returns-then-not-is-timely : goal.returns-then-not-is-timely
-returns-then-not-is-timely c = record {
+pub returns-then-not-is_timely : goal.returns-then-not-is_timely
+returns-then-not-is_timely c = record {
   state = search rules;
   order = in_order c.args.self.now.state c.args.time;
   twice = twice c.args.self.now.state c.args.time;

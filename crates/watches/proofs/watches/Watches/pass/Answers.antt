@@ -8,22 +8,22 @@ use Rattle.watches.proofs.Keeps.{Sound, passed_sound}
 use Rattle.watches.proofs.Steps.{passes}
 use Rattle.watches.proofs.watches.Watches.pass.Goals as goal
 
-pub invariant-of-self : goal.invariant-of-self
-invariant-of-self c =
+pub invariant_of-self : goal.invariant_of-self
+invariant_of-self c =
     let s = c.args.self.now in
     let d = s.state in
     let e = c.args.moment in
-    let t = (and_parts (timely d.clock e) (none_before e (first_end d)) (sym c.if-is-next.ensures)).0 in
+    let t = (and_parts (timely d.clock e) (none_before e (first_end d)) (sym c.if-is_next.ensures)).0 in
     let b = and_parts (leb d.clock e) (leb e last_moment) t in
-    subst Sound (sym c.at-moment-self.ensures)
+    subst Sound (sym c.at_moment-self.ensures)
     (passed_sound e d (leb-true _ _ b.0) (leb-true _ _ b.1) (s.within, (s.upper, (s.lower, (s.halt, tt)))))
 
 -- a moment that is next is moved to
 next_moves : (e : ℕ) (d : State) → PassMoves d e
 next_moves e d q = passes e d (and_parts (timely d.clock e) (none_before e (first_end d)) q).1
 
-pub returns-then-is-next : goal.returns-then-is-next
-returns-then-is-next c = record { state = search rules; moves = next_moves c.args.moment c.args.self.now.state }
+pub returns-then-is_next : goal.returns-then-is_next
+returns-then-is_next c = record { state = search rules; moves = next_moves c.args.moment c.args.self.now.state }
 
-pub returns-else-is-next : goal.returns-else-is-next
-returns-else-is-next c = record { state = search rules; moves = next_moves c.args.moment c.args.self.now.state }
+pub returns-else-is_next : goal.returns-else-is_next
+returns-else-is_next c = record { state = search rules; moves = next_moves c.args.moment c.args.self.now.state }
