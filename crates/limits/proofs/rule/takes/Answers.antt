@@ -1,4 +1,4 @@
-use Rattle.std.proofs.Common.{◌≡◌, true, sym, ◌∙◌, rules}
+use Rattle.std.proofs.Common.{◌≡◌, sym, ◌∙◌, rules}
 use Rattle.limits.proofs.Offsets.{graded}
 use Rattle.limits.proofs.rule.takes.Goals as goal
 
