@@ -16,7 +16,7 @@ returns-in_err-record c =
     let some : 0 < length rest = simp length-drop (omega arith) in
     let p = err_from_is_err_and c.from_residual.result c.from_residual.ensures.1 in
     let is = p.1 ∙ ap Err p.2 in
-    let fails = ap (stepped at) c.in-err-record.ensures.gives ∙ sym (step_some rest at last some) in
+    let fails = ap (stepped at) c.in_err-record.ensures.gives ∙ sym (step_some rest at last some) in
     record {
       gives = ap told is ∙ fails;
       place = ap (λ r. place_after (told r) at) (sym is);
