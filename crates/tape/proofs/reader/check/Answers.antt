@@ -1,7 +1,7 @@
 use Rattle.std.proofs.Common.{◌≡◌, ℕ, ◌+◌, ◌≤◌, length, drop, Ok, Err, sym, refl, ap, ◌∙◌, subst, arith}
 use Rattle.std.proofs.lemmas.Result.{err_from_is_err_and}
 use Rattle.tape.specs.Codes.{refusing, tape_refusal}
-use Rattle.tape.specs.Format.{Plain, plain, size_of, time_of}
+use Rattle.tape.specs.Format.{Plain, plain, size_of}
 use Rattle.tape.specs.Reading.{Outcome, sound, faulty, put, step, told, count, parse}
 use Rattle.tape.proofs.Means.{bytes_all, verdict}
 use Rattle.tape.proofs.Runs.{Sofar, first_some, start, turn, done, failed}
