@@ -1,12 +1,12 @@
 -- What is written is read back.
-use Rattle.std.proofs.Common.{◌≡◌, ℕ, zero, suc, ◌+◌, ◌*◌, ◌/◌, ◌%◌, ◌<◌, ◌≤◌, true, false, cond, eqb, leb, List, [], ◌∷◌, ◌++◌, length, get_or, take, drop, Ok, Err, sym, refl, ap, ◌∙◌, arith, length-append, le-leb}
+use Rattle.std.proofs.Common.{◌≡◌, ℕ, zero, suc, ◌+◌, ◌<◌, ◌≤◌, true, leb, List, [], ◌∷◌, ◌++◌, length, take, drop, Ok, Err, refl, ap, ◌∙◌, arith, length-append, le-leb}
 use Rattle.std.specs.List.{flat_map}
 use Rattle.std.proofs.lemmas.Bool.{cond-true}
 use Rattle.std.proofs.lemmas.List.{take_at, drop_at}
 use Rattle.std.proofs.lemmas.Bool.Decides.{nat_tests}
 use Rattle.tape.specs.Codes.{refused_at}
-use Rattle.tape.specs.Format.{Plain, trade, quote, time_of, symbol_of, size_of, within, good_symbol, good_fields, bytes2, bytes4, header, encode, tape_of}
-use Rattle.tape.specs.Reading.{be2, be4, judge, decode, front, timely, over, one, stepped, step, sound, put, carry, walk, parse}
+use Rattle.tape.specs.Format.{Plain, trade, quote, time_of, size_of, within, good_symbol, good_fields, bytes4, header, encode, tape_of}
+use Rattle.tape.specs.Reading.{be2, be4, judge, decode, front, timely, one, stepped, step, sound, put, carry, walk, parse}
 use Rattle.tape.specs.Sound.{InOrder}
 use Rattle.tape.proofs.Digits.{two_back, four_back}
 use Rattle.tape.proofs.Splices.{length_encode}

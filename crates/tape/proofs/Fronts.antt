@@ -2,7 +2,7 @@
 use Rattle.std.proofs.Common.{◌≡◌, ℕ, ◌+◌, ◌≤◌, Bool, true, false, cond, eqb, leb, List, length, get_or, take, drop, IfOk, Ok, Err, Result, refl, ap, arith, length-drop, length-take, eqb-true, leb-true}
 use Rattle.std.proofs.lemmas.Bool.Decides.{nat_tests}
 use Rattle.tape.specs.Format.{Plain, trade, quote, symbol_of, size_of, within, good_symbol, good_fields}
-use Rattle.tape.specs.Reading.{front, decode, judge, fielded, be2, be4}
+use Rattle.tape.specs.Reading.{front, decode, judge, be2, be4}
 
 pub made_if : {X Y : Type 0} (P : X → Type 0) (c : Bool) (x y : Result X Y) → (c ≡ true → IfOk x P) → (c ≡ false → IfOk y P) → IfOk (cond c x y) P
 made_if P true x y f g = f refl

@@ -1,20 +1,20 @@
 -- What a verdict on a tape means: the records are written again as the bytes they were read from.
-use Rattle.std.proofs.Common.{◌≡◌, ℕ, zero, suc, ◌+◌, ◌*◌, ◌<◌, ◌≤◌, Bool, true, false, cond, eqb, leb, ◌⊎◌, List, [], ◌∷◌, ◌++◌, length, get_or, take, drop, IfOk, IfErr, Some, None, Ok, Err, Result, sym, refl, ap, ◌∙◌, subst, inl, inr, append_assoc, arith, length-append, length-drop, take-append-drop, eqb-true, leb-false, leb-true}
+use Rattle.std.proofs.Common.{◌≡◌, ℕ, zero, suc, ◌+◌, ◌*◌, ◌<◌, ◌≤◌, Bool, true, false, cond, eqb, leb, ◌⊎◌, List, [], ◌∷◌, ◌++◌, length, get_or, take, drop, IfOk, IfErr, Some, None, Ok, Err, Result, sym, refl, ap, ◌∙◌, subst, inl, inr, append_assoc, arith, length-append, length-drop, take-append-drop, eqb-true, leb-true}
 use borrow.Author.Tests.{eqb-false}
 use Rattle.std.specs.List.{flat_map}
 use Rattle.std.proofs.lemmas.List.{drop_more, nil_from_length, length-take-le}
-use Rattle.std.proofs.lemmas.Bool.{cond_both, cond-true, cond-false}
+use Rattle.std.proofs.lemmas.Bool.{cond_both, cond-false}
 use Rattle.std.proofs.lemmas.Bool.Decides.{nat_tests}
 use Rattle.tape.specs.declared.fault.Flaw.{Flaw}
 use Rattle.tape.specs.declared.fault.Flaw.TheVariants.{Short, Kind, Length, Field, Backward}
 use Rattle.tape.specs.declared.fault.TapeFault.{TapeFault}
 use Rattle.tape.specs.declared.fault.TapeFault.TheVariants.{TooLong, Version, Broken}
 use Rattle.tape.specs.Codes.{Refusal, refused, refused_at, flaw_number, refusing, tape_refusal}
-use Rattle.tape.specs.Format.{Plain, trade, quote, time_of, symbol_of, size_of, within, good_symbol, good_fields, bytes2, bytes4, header, head, encode, tape_of}
-use Rattle.tape.specs.Reading.{be2, be4, judge, fielded, decode, front, timely, Step, over, one, bad, stepped, step, Outcome, sound, faulty, put, carry, walk, parse, count}
-use Rattle.tape.specs.Sound.{InOrder, Sound, latest, lateness, flaw_of, Breaks, Counts, Verdict}
+use Rattle.tape.specs.Format.{Plain, trade, quote, time_of, size_of, within, good_fields, bytes2, bytes4, header, encode}
+use Rattle.tape.specs.Reading.{be2, be4, fielded, decode, front, timely, Step, over, one, bad, stepped, step, Outcome, sound, faulty, put, carry, walk, parse, count}
+use Rattle.tape.specs.Sound.{InOrder, Sound, latest, lateness, flaw_of, Breaks, Verdict}
 use Rattle.tape.proofs.Digits.{digit_0, digit_1, digit_2, digit_3, low_0, low_1}
-use Rattle.tape.proofs.Fronts.{made_if, made_more, judged, fronted, Lies, front_lies}
+use Rattle.tape.proofs.Fronts.{made_more, judged, fronted, Lies, front_lies}
 use Rattle.tape.proofs.Splices.{length_encode}
 
 abbrev pub Bytes : List ℕ → Type 0

@@ -1,10 +1,10 @@
 -- A loop over a tape: R says what the answer is from a state b and from what is still to come.
-use Rattle.std.proofs.Common.{◌≡◌, ℕ, zero, suc, ◌+◌, ◌-◌, ◌<◌, ◌≤◌, Bool, true, false, cond, eqb, leb, List, [], ◌∷◌, length, get_or, take, drop, sym, refl, ap, ◌∙◌, subst, arith, length-drop, eq-eqb, le-leb}
+use Rattle.std.proofs.Common.{◌≡◌, ℕ, zero, suc, ◌+◌, ◌≤◌, eqb, leb, List, [], ◌∷◌, length, get_or, drop, sym, ap, ◌∙◌, subst, arith, length-drop, eq-eqb, le-leb}
 use Rattle.std.proofs.lemmas.Bool.{cond-true}
 use Rattle.std.proofs.lemmas.List.{drop-drop}
 use Rattle.tape.specs.Codes.{Refusal, refused, refused_at}
 use Rattle.tape.specs.Format.{Plain, size_of, time_of}
-use Rattle.tape.specs.Reading.{Step, over, one, bad, step, Outcome, sound, faulty, walk, carry, put, parse}
+use Rattle.tape.specs.Reading.{over, one, bad, step, Outcome, sound, faulty, walk, carry, put, parse}
 use Rattle.tape.proofs.Steps.{AtOne, Comes, step_comes, step_none}
 
 -- the answer z is what R gives at state b of the bytes from `at` on

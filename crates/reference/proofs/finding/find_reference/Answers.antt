@@ -21,7 +21,7 @@ returns-in-err-edges c =
     let fault = c.in-err-edges.ensures in
     record {
       gives = ap (refusing reference_refusal) is ∙ ap (λ o. searched q.symbol.now q.close o 1 q.windows) (sym fault) ∙ due_is q b fits;
-      means = subst (Answers q b) (sym is) (fits, fault_means b _ (bytes_all b (λ i. (c.type-inv.tape i).fits)) fault);
+      means = subst (Answers q b) (sym is) (fits, fault_means b _ (bytes_all b (λ i. (c.type_inv.tape i).fits)) fault);
     }
 
 pub part-part-requires : goal.part-part-requires

@@ -36,6 +36,6 @@ loop-placed-preserved c =
 
 pub returns : goal.returns
 returns c =
-    let bytes = bytes_all c.args.tape.now (λ i. (c.type-inv.tape i).fits) in
+    let bytes = bytes_all c.args.tape.now (λ i. (c.type_inv.tape i).fits) in
     let h = c.loop-placed.invariant.1 in
     (h.close, noted_done c.args.close c.args.tape.now (replicate 21 (length c.args.tape.now)) _ _ _ _ _ (length-replicate 21 (length c.args.tape.now)) (λ i l. get_or-replicate 21 i (length c.args.tape.now) 0 l) bytes c.loop-placed.invariant.0 h c.in-default.is c.in-ok-placed.ensures.gives)

@@ -1,6 +1,5 @@
-use Rattle.std.proofs.Common.{◌≡◌, ◌+◌, ◌≤◌, length, ap, ◌∙◌, arith}
+use Rattle.std.proofs.Common.{◌+◌, ◌≤◌, length, arith}
 use Rattle.tape.specs.Format.{plain, symbol_of, head, encode}
-use Rattle.tape.specs.Writing.{splice}
 use Rattle.tape.proofs.Splices.{splice_two, length_head}
 use Rattle.tape.proofs.writer.put_record.Goals as goal
 

@@ -1,4 +1,4 @@
-use Rattle.std.proofs.Common.{◌≡◌, ◌<◌, length, drop, Err, sym, refl, ap, ◌∙◌, arith, length-drop, rules}
+use Rattle.std.proofs.Common.{◌<◌, length, drop, Err, sym, refl, ap, ◌∙◌, arith, length-drop}
 use Rattle.std.proofs.lemmas.Result.{err_from_is_err_and}
 use Rattle.tape.specs.Reading.{stepped, told, place_after, time_after}
 use Rattle.tape.proofs.Steps.{step_none, step_some}
@@ -16,7 +16,7 @@ returns-in_err-record c =
     let some : 0 < length rest = simp length-drop (omega arith) in
     let p = err_from_is_err_and c.from_residual.result c.from_residual.ensures.1 in
     let is = p.1 ∙ ap Err p.2 in
-    let fails = ap (stepped at) c.in-err-record.ensures.gives ∙ sym (step_some rest at last some) in
+    let fails = ap (stepped at) c.in_err-record.ensures.gives ∙ sym (step_some rest at last some) in
     record {
       gives = ap told is ∙ fails;
       place = ap (λ r. place_after (told r) at) (sym is);
