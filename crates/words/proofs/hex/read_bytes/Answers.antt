@@ -8,5 +8,5 @@ use Rattle.words.proofs.hex.read_bytes.Goals as goal
 pub returns : goal.returns
 returns c =
     let same = ap pairs c.as_bytes.ensures.value
-    ∙ no_dash c.args.word.now c.if-is_empty.ensures (λ e. both_ways _ c.if-eq.false (c.eq.ensures.1 e)) in
+    ∙ no_dash c.args.word.now c.if-is_empty.ensures (λ e. both_ways _ c.if-eq.false e) in
     IfOk-weaker c.read_pairs.result _ _ (λ o e. e ∙ same) c.read_pairs.ensures
