@@ -27,7 +27,7 @@ impl fmt::Display for HexBytes<'_> {
 }
 
 fn write_pair<W: fmt::Write>(f: &mut fmt::Formatter<W>, byte: u8) -> fmt::Result
-    ensures { WritesOnOk write_str_gives f.old result (pair_text byte) f.new }
+    ensures { WritesOnOk W.write_str_gives f.old result (pair_text byte) f.new }
 {
     let high = hex_digit(byte / 16);
     let low = hex_digit(byte % 16);

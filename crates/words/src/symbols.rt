@@ -30,7 +30,7 @@ impl fmt::Display for Symbol<'_> {
 }
 
 fn write_form<W: fmt::Write>(f: &mut fmt::Formatter<W>, byte: u8) -> fmt::Result
-    ensures { WritesOnOk write_str_gives f.old result (form byte) f.new }
+    ensures { WritesOnOk W.write_str_gives f.old result (form byte) f.new }
 {
     if is_plain(byte) {
         return f.write_char(byte as char);

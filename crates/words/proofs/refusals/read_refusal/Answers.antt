@@ -6,7 +6,7 @@ use Rattle.words.proofs.refusals.read_refusal.Goals as goal
 pub returns-in-Some-split_once : goal.returns-in-Some-split_once
 returns-in-Some-split_once c =
     let front = c.in-Some.ensures.cases in
-    let parts = split_parts 32 c.in-Some.rest.now (Some (c.in-Some-split-once.code, c.in-Some-split-once.tail)) c.in-Some-split-once.ensures.cases (omega arith) in
+    let parts = split_parts 32 c.in-Some.rest.now (Some (c.in-Some-split_once.code, c.in-Some-split_once.tail)) c.in-Some-split_once.ensures.cases (omega arith) in
     c.refusal_of.ensures
     ∙ placed _ _ _ _ _ parts.0 parts.1 c.read_code.ensures c.read_place.ensures
     ∙ sym (after_front c.args.text.now _ (front.1.1 ∙ ap (λ (l : List ℕ). codes "refused " ++ l) (sym front.2)))

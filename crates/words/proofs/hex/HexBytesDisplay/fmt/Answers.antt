@@ -7,7 +7,7 @@ use Rattle.words.proofs.hex.HexBytesDisplay.fmt.Goals as goal
 pub loop-byte-preserved : goal.loop-byte-preserved
 loop-byte-preserved g c =
     printed_more g.W.Write.write_str_gives pair_text _ _ _ c.args.self.now.0.now c.loop-byte.byte-index _ _
-    c.loop-byte.invariant c.loop-byte-test.true refl c.write_pair.ensures (ap is_ok c.in-ok-write-pair.was)
+    c.loop-byte.invariant c.loop-byte-test.true refl c.write_pair.ensures (ap is_ok c.in_ok-write_pair.was)
 
 pub returns-clause-writes : goal.returns-clause-writes
 returns-clause-writes g c =

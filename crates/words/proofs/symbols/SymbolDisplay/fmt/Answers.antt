@@ -8,7 +8,7 @@ use Rattle.words.proofs.symbols.SymbolDisplay.fmt.Goals.{else-symbol-eq1-via-the
 pub loop-byte-preserved : goal.loop-byte-preserved
 loop-byte-preserved g c =
     printed_more g.W.Write.write_str_gives form _ _ _ c.args.self.now.0.now c.loop-byte.byte-index _ _
-    c.loop-byte.invariant c.loop-byte-test.true refl c.write_form.ensures (ap is_ok c.in-ok-write-form.was)
+    c.loop-byte.invariant c.loop-byte-test.true refl c.write_form.ensures (ap is_ok c.in_ok-write_form.was)
 
 pub returns-clause-writes : goal.returns-clause-writes
 returns-clause-writes g c =
