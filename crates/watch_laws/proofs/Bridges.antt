@@ -13,7 +13,7 @@ use Rattle.watches.specs.declared.state.State.{State}
 use Rattle.watches.specs.Words.{span, of, side_of}
 use Rattle.watches.specs.Moving.{advanced}
 use Rattle.watches.specs.Marking.{marked}
-use Rattle.watches.specs.Reading.{none_runs, with_any_mark, watch_starts, ended, level, watch_end, last_mark_of, halt_of, or_else, halt, halt_began, standing, watch_till, phase_till, read, newest, Came}
+use Rattle.watches.specs.Reading.{none_runs, with_any_mark, watch_starts, ended, watch_end, last_mark_of, halt_of, or_else, halt, halt_began, watch_till, phase_till, read, newest, Came}
 use Rattle.watch_laws.specs.Laws.{Reads}
 use Rattle.watch_laws.specs.Playing.{is_open}
 use Rattle.watch_laws.proofs.Views.{band_of, phase_of, stands_of, phase_by, stands_by, phase_in, view, view_moves, view_marks}

@@ -13,7 +13,7 @@ use Rattle.watches.specs.declared.state.State.{State}
 use Rattle.watches.specs.Words.{span, of}
 use Rattle.watches.specs.Ends.{risen}
 use Rattle.watches.specs.Marking.{started, marked}
-use Rattle.watches.specs.Reading.{none_runs, with_any_mark, watch_starts, ended, level}
+use Rattle.watches.specs.Reading.{none_runs, with_any_mark, watch_starts, ended}
 use Rattle.watch_laws.specs.Laws.{Levels, LevelsKept}
 
 one_at_most : (s t : ℕ) → cond (leb (s + span) t) 1 0 ≤ 1

@@ -42,14 +42,14 @@ returns-then-not-accept c =
       worked = worked;
     }
 
-pub returns-then-not-is-timely : goal.returns-then-not-is-timely
-returns-then-not-is-timely c =
+pub returns-then-not-is_timely : goal.returns-then-not-is_timely
+returns-then-not-is_timely c =
     let n = c.args.levels in
     let xs = c.args.marks.now in
     let t = c.args.time in
     let all = done n c.loop-mark.day.state c.loop-mark.mark-index xs c.loop-mark-test.false c.loop-mark.invariant in
     record {
-      answer = sym (not_timely n xs t (ap (λ (d : State). timely d.clock t) (sym all.is) ∙ sym c.if-not-is-timely.ensures));
+      answer = sym (not_timely n xs t (ap (λ (d : State). timely d.clock t) (sym all.is) ∙ sym c.if-not-is_timely.ensures));
       laws = laws n;
       worked = worked;
     }
@@ -61,7 +61,7 @@ returns c =
     let t = c.args.time in
     let d = c.loop-mark.day.state in
     let all = done n d c.loop-mark.mark-index xs c.loop-mark-test.false c.loop-mark.invariant in
-    let q : timely (newest (reverse xs)) t ≡ true = ap (λ (d : State). timely d.clock t) (sym all.is) ∙ sym c.if-not-is-timely.ensures in
+    let q : timely (newest (reverse xs)) t ≡ true = ap (λ (d : State). timely d.clock t) (sym all.is) ∙ sym c.if-not-is_timely.ensures in
     let to : c.state.result ≡ moved d t = search rules in
     record {
       answer = ap (λ (x : State). Some x) (to ∙ moved_on n d xs t all q) ∙ sym (all_and_timely n xs t all.all q);

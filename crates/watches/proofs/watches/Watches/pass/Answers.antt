@@ -15,8 +15,10 @@ invariant_of-self c =
     let e = c.args.moment in
     let t = (and_parts (timely d.clock e) (none_before e (first_end d)) (sym c.if-is_next.ensures)).0 in
     let b = and_parts (leb d.clock e) (leb e last_moment) t in
+    let k =
     subst Sound (sym c.at_moment-self.ensures)
-    (passed_sound e d (leb-true _ _ b.0) (leb-true _ _ b.1) (s.within, (s.upper, (s.lower, (s.halt, tt)))))
+    (passed_sound e d (leb-true _ _ b.0) (leb-true _ _ b.1) (s.within, (s.upper, (s.lower, (s.halt, tt))))) in
+    record { within = k.0; upper = k.1.0; lower = k.1.1.0; halt = k.1.1.1.0 }
 
 -- a moment that is next is moved to
 next_moves : (e : ℕ) (d : State) → PassMoves d e
