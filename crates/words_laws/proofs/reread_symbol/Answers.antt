@@ -10,5 +10,5 @@ returns-in_err-text c = record { same = search rules; law = symbols }
 pub returns : goal.returns
 returns c =
     let printed = c.as_str.ensures.value ∙ c.in_ok-text.ensures.ok in
-    let back = ap read_symbol printed ∙ symbols c.args.symbol.now (all_bytes c.args.symbol.now (λ i. (c.type-inv.symbol i).fits)) in
+    let back = ap read_symbol printed ∙ symbols c.args.symbol.now (all_bytes c.args.symbol.now (λ i. (c.type_inv.symbol i).fits)) in
     record { same = IfOk-weaker c.read_symbol.result _ _ (λ o e. e ∙ back) c.read_symbol.ensures; law = symbols }
