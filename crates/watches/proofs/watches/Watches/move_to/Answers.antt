@@ -2,8 +2,8 @@ use Rattle.std.proofs.Common.{◌≡◌, ℕ, ◌<◌, ◌≤◌, true, leb, Som
 use Rattle.std.proofs.lemmas.Bool.{and_parts, leb-true, cond-true}
 use Rattle.watches.specs.declared.state.State.{State}
 use Rattle.watches.specs.Words.{last_moment, timely}
-use Rattle.watches.specs.Ends.{end_by}
-use Rattle.watches.specs.Moving.{advanced}
+use Rattle.watches.specs.Ends.{end_by, pass_to}
+use Rattle.watches.specs.Moving.{moved, advanced}
 use Rattle.watches.proofs.Steps.{left, Turn, turn, rest}
 use Rattle.watches.proofs.Turns.{in_order}
 use Rattle.watches.proofs.Twice.{twice}
@@ -34,18 +34,16 @@ loop-moment-preserved c =
 
 pub returns : goal.returns
 returns c =
+    let s = c.args.self.now.state in
+    let t = c.args.time in
     let d = c.loop-moment.self.state in
     let e = sym c.if-not-is_timely.ensures in
-    let none_left : end_by d c.args.time ≡ None = search rules in
-    record {
-      state =
-          c.pass-2.ensures.state
-          ∙ rest d c.args.time c.loop-moment.invariant.0 (of_the_day _ _ e) none_left
-          ∙ c.loop-moment.invariant.1
-          ∙ sym (cond-true _ _ _ e);
-      order = in_order c.args.self.now.state c.args.time;
-      twice = twice c.args.self.now.state c.args.time;
-    }
+    let none_left : end_by d t ≡ None = search rules in
+    let to : pass_to t d ≡ moved s t =
+    rest d t c.loop-moment.invariant.0 (of_the_day s.clock t e) none_left
+    ∙ c.loop-moment.invariant.1
+    ∙ sym (cond-true (timely s.clock t) (advanced s t) s e) in
+    record { state = cc; order = in_order s t; twice = twice s t }
 
 pub returns-then-not-is_timely : goal.returns-then-not-is_timely
 returns-then-not-is_timely c = record {
