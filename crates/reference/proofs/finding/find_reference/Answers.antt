@@ -11,44 +11,44 @@ use Rattle.reference.proofs.Meanings.{found_means, nothing_means, fault_means}
 use Rattle.reference.proofs.Searching.{part_sound, window_next, window_found, window_end, due_is, few_windows}
 use Rattle.reference.proofs.finding.find_reference.Goals as goal
 
-pub returns-in-err-edges : goal.returns-in-err-edges
-returns-in-err-edges c =
+pub returns-in_err-edges : goal.returns-in_err-edges
+returns-in_err-edges c =
     let q = c.args.request.now in
     let b = c.args.tape.now in
-    let p = err_from_is_err_and c.from-residual.result c.from-residual.ensures.1 in
+    let p = err_from_is_err_and c.from_residual.result c.from_residual.ensures.1 in
     let is = p.1 ∙ ap Err p.2 in
-    let fits = sym c.is-fit.ensures ∙ c.if-not-is-fit.false in
-    let fault = c.in-err-edges.ensures in
+    let fits = sym c.is_fit.ensures ∙ c.if-not-is_fit.false in
+    let fault = c.in_err-edges.ensures in
     record {
       gives = ap (refusing reference_refusal) is ∙ ap (λ o. searched q.symbol.now q.close o 1 q.windows) (sym fault) ∙ due_is q b fits;
       means = subst (Answers q b) (sym is) (fits, fault_means b _ (bytes_all b (λ i. (c.type_inv.tape i).fits)) fault);
     }
 
 pub part-part-requires : goal.part-part-requires
-part-part-requires c = (
-  c.in-ok-edges.ensures.1,
-  omega (arith, few_windows c.args.request.now (sym c.is-fit.ensures ∙ c.if-not-is-fit.false)),
-)
+part-part-requires c = record {
+  edged = c.in_ok-edges.ensures.1;
+  windows_bound = omega (arith, few_windows c.args.request.now (sym c.is_fit.ensures ∙ c.if-not-is_fit.false));
+}
 
 pub tally-requires : goal.tally-requires
 tally-requires c = part_short c.args.tape.now _ _ _ c.part-part.ensures
 
 -- the part was read with the whole tape
-pub returns-in-err-tallies : goal.returns-in-err-tallies
-returns-in-err-tallies c = absurd (part_sound c.args.tape.now _ _ _ _ _ c.part-part.ensures c.in-err-tallies.ensures.gives)
+pub returns-in_err-tallies : goal.returns-in_err-tallies
+returns-in_err-tallies c = absurd (part_sound c.args.tape.now _ _ _ _ _ c.part-part.ensures c.in_err-tallies.ensures.gives)
 
-pub first-mean-requires : goal.first-mean-requires
-first-mean-requires c = c.in-ok-tallies.ensures.fits
+pub first_mean-requires : goal.first_mean-requires
+first_mean-requires c = c.in_ok-tallies.ensures.fits
 
 pub returns-in-Some : goal.returns-in-Some
 returns-in-Some c =
     let q = c.args.request.now in
     let b = c.args.tape.now in
     let w = c.loop-windows.windows in
-    let h = subst (λ x. Holds b (x - 30000 * w) x c.part-part.result) c.in-ok-edges.ensures.0 c.part-part.ensures in
-    let fits = sym c.is-fit.ensures ∙ c.if-not-is-fit.false in
+    let h = subst (λ x. Holds b (x - 30000 * w) x c.part-part.result) c.in_ok-edges.ensures.0 c.part-part.ensures in
+    let fits = sym c.is_fit.ensures ∙ c.if-not-is_fit.false in
     let is =
-    sym (window_found q b w c.part-part.result c.in-ok-tallies.tallies c.first-mean.result h c.in-ok-tallies.ensures.gives c.first-mean.ensures c.in-Some.found c.in-Some.is (omega arith))
+    sym (window_found q b w c.part-part.result c.in_ok-tallies.tallies c.first_mean.result h c.in_ok-tallies.ensures.gives c.first_mean.ensures c.in-Some.found c.in-Some.is (omega arith))
     ∙ c.loop-windows.invariant in
     record { gives = is ∙ due_is q b fits; means = (fits, found_means q b h.records h.parsed h.whole c.in-Some.found is) }
 
@@ -57,19 +57,19 @@ loop-windows-preserved c =
     let q = c.args.request.now in
     let b = c.args.tape.now in
     let w = c.loop-windows.windows in
-    let h = subst (λ x. Holds b (x - 30000 * w) x c.part-part.result) c.in-ok-edges.ensures.0 c.part-part.ensures in
-    sym (window_next q b w c.part-part.result c.in-ok-tallies.tallies c.first-mean.result h c.in-ok-tallies.ensures.gives c.first-mean.ensures c.in-default.is (omega arith))
+    let h = subst (λ x. Holds b (x - 30000 * w) x c.part-part.result) c.in_ok-edges.ensures.0 c.part-part.ensures in
+    sym (window_next q b w c.part-part.result c.in_ok-tallies.tallies c.first_mean.result h c.in_ok-tallies.ensures.gives c.first_mean.ensures c.in_default.is (omega arith))
     ∙ c.loop-windows.invariant
 
-pub returns-in-default : goal.returns-in-default
-returns-in-default c =
+pub returns-in_default : goal.returns-in_default
+returns-in_default c =
     let q = c.args.request.now in
     let b = c.args.tape.now in
     let w = c.loop-windows.windows in
-    let h = subst (λ x. Holds b (x - 30000 * w) x c.part-part.result) c.in-ok-edges.ensures.0 c.part-part.ensures in
-    let fits = sym c.is-fit.ensures ∙ c.if-not-is-fit.false in
+    let h = subst (λ x. Holds b (x - 30000 * w) x c.part-part.result) c.in_ok-edges.ensures.0 c.part-part.ensures in
+    let fits = sym c.is_fit.ensures ∙ c.if-not-is_fit.false in
     let none =
     sym (window_end q b (w + 1) h.records h.parsed (omega arith))
-    ∙ sym (window_next q b w c.part-part.result c.in-ok-tallies.tallies c.first-mean.result h c.in-ok-tallies.ensures.gives c.first-mean.ensures c.in-default.is (omega arith))
+    ∙ sym (window_next q b w c.part-part.result c.in_ok-tallies.tallies c.first_mean.result h c.in_ok-tallies.ensures.gives c.first_mean.ensures c.in_default.is (omega arith))
     ∙ c.loop-windows.invariant in
     record { gives = none ∙ due_is q b fits; means = (fits, nothing_means q b h.records h.parsed h.whole none) }

@@ -9,7 +9,7 @@ returns-in-Some c =
 
 pub loop-tier-preserved : goal.loop-tier-preserved
 loop-tier-preserved c =
-    sym (tier_step (mean_in c.args.tallies.now) c.args.windows c.args.tiers.now c.loop-tier.tier-index None c.loop-tier-test.true c.in-default.ensures) ∙ c.loop-tier.invariant
+    sym (tier_step (mean_in c.args.tallies.now) c.args.windows c.args.tiers.now c.loop-tier.tier-index None c.loop-tier-test.true c.in_default.ensures) ∙ c.loop-tier.invariant
 
 pub returns : goal.returns
 returns c =
