@@ -11,4 +11,4 @@ form_ok (Err f) true e = absurd (let z : ◌≡◌ {A = ℕ} 0 1 = cc in omega a
 form_ok (Err f) false e = refl
 
 pub returns : goal.returns
-returns g c = c.is-ok.ensures.value ∙ form_ok c.form.result _ c.form.ensures
+returns g c = c.is_ok.ensures.value ∙ form_ok c.form.result _ c.form.ensures

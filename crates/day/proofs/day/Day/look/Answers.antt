@@ -7,7 +7,7 @@ pub returns : goal.returns
 returns g c =
     let d = c.args.self.now.watches.state in
     let t = c.args.time in
-    let told = c.in-ok-move-to.ensures in
+    let told = c.in_ok-move_to.ensures in
     let on = timely_ok d t told.answer in
     let there = told.after ∙ moves d t on in
     record {
