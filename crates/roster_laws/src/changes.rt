@@ -17,6 +17,7 @@ pub enum Change<L> {
 }
 
 // Makes one change, or none where the roster refuses it.
+#[tactic(auto, using(crate::proofs::Steps::drop_later))]
 fn make_change<L: Listing>(roster: &mut Roster<'_, L>, change: &Change<L>)
     ensures entries { entries_of roster.new ≡ changed L.Listing.sound L.Listing.same (room_of roster.old) (entries_of roster.old) change.now }
     ensures beyond { places_from (room_of roster.old) roster.new ≡ places_from (room_of roster.old) roster.old }
