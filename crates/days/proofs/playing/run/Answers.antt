@@ -5,9 +5,9 @@ use Rattle.days.proofs.playing.run.Goals as goal
 
 pub returns : goal.returns
 returns g c =
-    let all = c.give-all.ensures in
+    let all = c.give_all.ensures in
     let e = c.give-answer.ensures in
-    let d = c.give-all.new.day in
+    let d = c.give_all.new.day in
     record {
       state = all.after;
       answer = e.answer ∙ same_answer g.R.LimitRule.means {p = d.price} {d = d.watches.state} (carried c.args.next.now) all.rule all.price refl;
