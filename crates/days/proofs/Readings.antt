@@ -11,10 +11,9 @@ use Rattle.watches.specs.declared.state.Side.TheVariants.{Upper, Lower}
 use Rattle.watches.specs.declared.state.State.{State}
 use Rattle.watches.specs.Ends.{end_of, halt_end}
 use Rattle.watches.specs.Reading.{watch_starts, watch_end, halt, standing, watch_till, phase_till, read}
-use Rattle.day.specs.declared.view.View.{View}
 use Rattle.day.specs.Answering as day
 use Rattle.days.specs.Asking.{Asked, mark, tick, look, future, series, CallData, MarkData}
-use Rattle.days.specs.Telling.{Told, granted, shows, refused, said, after_checks, answer_at}
+use Rattle.days.specs.Telling.{granted, shows, refused, said, after_checks, answer_at}
 use Rattle.days.specs.Past.{clock, accepted, view_due, due}
 use Rattle.days.specs.Due.{halted, at_edge, takes, view_at, stops, due_month, due_series, due_at, told_due, shown_due}
 
