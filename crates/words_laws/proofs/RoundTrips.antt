@@ -7,7 +7,7 @@ use Rattle.std.proofs.lemmas.Bool.Decides.{nat_tests}
 use Rattle.std.specs.Option.{option_map}
 use Rattle.words.specs.declared.prices.Price.{Price}
 use Rattle.words.specs.declared.refusals.Refusal.{Refusal}
-use Rattle.std.specs.List.{flat_map, AllByRecursion as All}
+use Rattle.std.specs.List.{flat_map, AllByRecursion}
 use Rattle.std.specs.Str.{all_ascii_digits}
 use Rattle.words.specs.HexText.{hex_byte, hex_digit, hex_value, onto, pair_text, pairs}
 use Rattle.words_laws.specs.Laws.{PricesReread, SymbolsReread, BytesReread, RefusalsReread}
@@ -77,7 +77,7 @@ pair_back b low =
     let is : b / 16 * 16 + b % 16 ≡ b = omega arith in
     (λ i. hex_byte (digit_back (b / 16) (omega arith) i) (digit_back (b % 16) (omega arith) i)) ∙ ap (λ (n : ℕ). Some n) is
 
-pairs_back : (bs : List ℕ) → All (λ b. b < 256) bs → pairs (flat_map pair_text bs) ≡ Some bs
+pairs_back : (bs : List ℕ) → AllByRecursion (λ b. b < 256) bs → pairs (flat_map pair_text bs) ≡ Some bs
 pairs_back [] fit = refl
 pairs_back (b ∷ bs) fit = (λ i. onto (pair_back b fit.0 i) (pairs_back bs fit.1 i))
 
@@ -93,7 +93,7 @@ form_back : (b : ℕ) → b < 256 → (rest : List ℕ) (t : Bool) → is_plain 
 form_back b low rest true e = rw (e, plain_apart b e)
 form_back b low rest false e = ap (λ (o : Option ℕ). before_rest o rest) (pair_back b low)
 
-forms_back : (bs : List ℕ) → All (λ b. b < 256) bs → all_forms (flat_map form bs) ≡ Some bs
+forms_back : (bs : List ℕ) → AllByRecursion (λ b. b < 256) bs → all_forms (flat_map form bs) ≡ Some bs
 forms_back [] fit = refl
 forms_back (b ∷ bs) fit =
     step (flat_map form (b ∷ bs)) b (flat_map form bs) (form_back b fit.0 (flat_map form bs) (is_plain b) refl)
@@ -126,7 +126,7 @@ symbols (b ∷ c ∷ bs) fit =
     simp length-append (omega (arith, form_some b (is_plain b), form_some c (is_plain c))) in
     sym (no_dash text (some text (omega arith)) (λ e. let n : length text ≡ 1 = ap length e in omega arith)) ∙ forms_back (b ∷ c ∷ bs) fit
 
-pub all_bytes : (bs : List ℕ) → ((i : ℕ) → get_or bs i 0 < 256) → All (λ b. b < 256) bs
+pub all_bytes : (bs : List ℕ) → ((i : ℕ) → get_or bs i 0 < 256) → AllByRecursion (λ b. b < 256) bs
 all_bytes [] low = tt
 all_bytes (b ∷ bs) low = (low 0, all_bytes bs (λ i. low (suc i)))
 
