@@ -33,8 +33,8 @@ loop-placed-init c =
       copied_none xs _ _ _ _ o.0 o.1 o.3 o.4 (ap (λ l. get_or l 0 0) w.bytes ∙ first_set b room) w.place w.time,
     )
 
-pub returns-in-err-placed : goal.returns-in-err-placed
-returns-in-err-placed c =
+pub returns-in_err-placed : goal.returns-in_err-placed
+returns-in_err-placed c =
     let xs = c.args.tape.now in
     let at = c.loop-placed.reader.at in
     let last = c.loop-placed.reader.last in
@@ -65,8 +65,8 @@ loop-placed-preserved c =
 never : (e : WriteFault) (x : Result (Unit {0}) Refusal) → Err (write_refusal e) ≡ x → x ≡ Ok tt → ⊥
 never e x s t = let z : ◌≡◌ {A = ℕ} 0 1 = cc in omega arith
 
-pub returns-in-err-append : goal.returns-in-err-append
-returns-in-err-append c =
+pub returns-in_err-append : goal.returns-in_err-append
+returns-in_err-append c =
     let got = c.in-ok-placed.ensures in
     let k = came _ c.args.tape.now _ _ _ _ _ _ c.loop-placed.invariant.2 c.loop-placed.invariant.1 c.in-Some.is got.gives got.place got.time in
     let room : length c.args.tape.now ≤ length c.start-writer.result.buffer.now =

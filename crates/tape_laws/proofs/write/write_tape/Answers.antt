@@ -30,8 +30,8 @@ one_most : (t : Bool) (n : ℕ) → n ≡ cond t 1 0 → n ≤ 1
 one_most true n h = omega arith
 one_most false n h = omega arith
 
-pub overflow-add-records : goal.overflow-add-records
-overflow-add-records c =
+pub overflow_add-records : goal.overflow_add-records
+overflow_add-records c =
     let one = one_most _ _ c.offer-records.ensures.gives in
     let few = c.loop-item.invariant.1.few in
     search rules
@@ -65,10 +65,10 @@ full b after rs (Err (Unfit f)) e start is s told same =
     let v = ap write_refusal (sym u) ∙ k in
     absurd (let z : ◌≡◌ {A = ℕ} 0 1 = cc in omega arith)
 
-pub returns-in-err-started : goal.returns-in-err-started
-returns-in-err-started c =
-    let p = err_from_is_err_and c.from-residual.result c.from-residual.ensures.1 in
-    full c.args.buffer.now _ (map plain c.args.items.now) c.from-residual.result c.in-err-started.field-0.0 c.start-writer.result.buffer.now (p.1 ∙ ap Err p.2) c.start-writer.ensures.bytes c.in-err-started.ensures (search rules)
+pub returns-in_err-started : goal.returns-in_err-started
+returns-in_err-started c =
+    let p = err_from_is_err_and c.from_residual.result c.from_residual.ensures.1 in
+    full c.args.buffer.now _ (map plain c.args.items.now) c.from_residual.result c.in-err-started.field-0.0 c.start-writer.result.buffer.now (p.1 ∙ ap Err p.2) c.start-writer.ensures.bytes c.in-err-started.ensures (search rules)
 
 pub returns : goal.returns
 returns c =
