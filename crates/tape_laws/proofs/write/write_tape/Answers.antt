@@ -22,7 +22,7 @@ pub loop-item-init : goal.loop-item-init
 loop-item-init c =
     let b = c.args.buffer.now in
     let s = c.start-writer.ensures in
-    let some : 0 < length c.start-writer.result.buffer.now = opened _ _ refl c.in-ok-started.ensures in
+    let some : 0 < length c.start-writer.result.buffer.now = opened _ _ refl c.in_ok-started.ensures in
     let here : 0 < length b = omega (arith, some, ap length s.bytes, length-set b 0 1) in
     (refl, kept_none _ _ _ (ap (λ l. get_or l 0 0) s.bytes ∙ first_set b here) s.place s.time)
 
@@ -68,7 +68,7 @@ full b after rs (Err (Unfit f)) e start is s told same =
 pub returns-in_err-started : goal.returns-in_err-started
 returns-in_err-started c =
     let p = err_from_is_err_and c.from_residual.result c.from_residual.ensures.1 in
-    full c.args.buffer.now _ (map plain c.args.items.now) c.from_residual.result c.in-err-started.field-0.0 c.start-writer.result.buffer.now (p.1 ∙ ap Err p.2) c.start-writer.ensures.bytes c.in-err-started.ensures (search rules)
+    full c.args.buffer.now _ (map plain c.args.items.now) c.from_residual.result c.in_err-started.field-0.0 c.start-writer.result.buffer.now (p.1 ∙ ap Err p.2) c.start-writer.ensures.bytes c.in_err-started.ensures (search rules)
 
 pub returns : goal.returns
 returns c =
