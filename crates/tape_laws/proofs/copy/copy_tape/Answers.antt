@@ -1,18 +1,17 @@
-use Rattle.std.proofs.Common.{◌≡◌, ℕ, ◌<◌, ◌≤◌, true, leb, List, length, get_or, drop, set, Ok, Err, Result, sym, refl, ap, ◌∙◌, subst, arith, rules, le-leb}
+use Rattle.std.proofs.Common.{◌≡◌, ℕ, ◌<◌, ◌≤◌, leb, List, length, get_or, drop, set, Ok, Err, Result, sym, refl, ap, ◌∙◌, arith, rules, le-leb}
 use Rattle.std.proofs.lemmas.List.{length-set}
 use Rattle.std.proofs.lemmas.Bool.{cond-true}
 use Rattle.tape.specs.declared.fault.WriteFault.{WriteFault}
 use Rattle.tape.specs.Codes.{Refusal, refused, write_refusal}
-use Rattle.tape.specs.Format.{Plain, plain, encode, tape_of}
+use Rattle.tape.specs.Format.{Plain, plain, tape_of}
 use Rattle.tape.specs.Reading.{Outcome, sound, faulty, step, told, parse}
 use Rattle.tape.specs.Sound.{Sound}
-use Rattle.tape.specs.Writing.{splice, end_after}
 use Rattle.tape.proofs.Means.{bytes_all, sound_means}
 use Rattle.tape.proofs.Runs.{first_some}
 use Rattle.tape.proofs.Steps.{Came, came}
 use Rattle.tape_laws.specs.Copying.{copied}
 use Rattle.tape_laws.specs.Keeping.{overlaid}
-use Rattle.tape_laws.proofs.Copies.{Copied, copied_none, copied_answer, copied_more, copied_all, copied_failed, count_sound, writes_back}
+use Rattle.tape_laws.proofs.Copies.{copied_none, copied_answer, copied_more, copied_all, copied_failed, count_sound, writes_back}
 use Rattle.tape_laws.proofs.Filling.{started, first_set}
 use Rattle.tape_laws.proofs.copy.copy_tape.Goals as goal
 

@@ -1,17 +1,15 @@
-use Rattle.std.proofs.Common.{◌≡◌, ℕ, ◌+◌, ◌<◌, ◌≤◌, Bool, true, false, cond, leb, List, [], ◌∷◌, map, length, get_or, set, Ok, Err, Result, sym, refl, ap, ◌∙◌, subst, arith, rules}
-use Rattle.std.proofs.lemmas.List.{length-set, length-map, get_or-map}
+use Rattle.std.proofs.Common.{◌≡◌, ℕ, ◌<◌, ◌≤◌, Bool, true, false, cond, leb, List, [], ◌∷◌, map, length, get_or, set, Ok, Err, Result, sym, refl, ap, ◌∙◌, arith, rules}
+use Rattle.std.proofs.lemmas.List.{length-set, length-map}
 use Rattle.std.proofs.lemmas.Result.{err_from_is_err_and}
 use Rattle.std.proofs.lemmas.Bool.Decides.{nat_tests}
 use Rattle.tape.specs.declared.fault.WriteFault.{WriteFault}
 use Rattle.tape.specs.declared.fault.WriteFault.TheVariants.{Unfit, Full}
-use Rattle.tape.specs.declared.record.Record.{Record}
-use Rattle.tape.specs.declared.writer.End.{End}
 use Rattle.tape.specs.Codes.{Refusal, refused, refusing, write_refusal}
-use Rattle.tape.specs.Format.{Plain, plain, encode}
-use Rattle.tape.specs.Writing.{opening, splice, end_after}
+use Rattle.tape.specs.Format.{Plain, plain}
+use Rattle.tape.specs.Writing.{opening}
 use Rattle.tape_laws.specs.declared.write.Written.{Written}
-use Rattle.tape_laws.specs.Keeping.{accepts, kept, Holds, Keeps}
-use Rattle.tape_laws.proofs.Filling.{started, first_set}
+use Rattle.tape_laws.specs.Keeping.{Keeps}
+use Rattle.tape_laws.proofs.Filling.{first_set}
 use Rattle.tape_laws.proofs.Keepings.{kept_none, kept_turn, kept_all, holds_started}
 use Rattle.tape_laws.proofs.write.write_tape.Goals as goal
 
