@@ -1,13 +1,12 @@
 -- A tape's records are appended one by one to a new tape: what a turn of that loop keeps, and what it ends in.
-use Rattle.std.proofs.Common.{◌≡◌, ℕ, ◌+◌, ◌<◌, ◌≤◌, min, true, cond, leb, List, [], ◌∷◌, ◌++◌, length, get_or, drop, is_ok, Ok, Err, Result, sym, refl, ap, ◌∙◌, subst, append_assoc, append-nil, arith, length-append, le-leb}
+use Rattle.std.proofs.Common.{◌≡◌, ℕ, ◌+◌, ◌≤◌, min, true, leb, List, [], ◌∷◌, ◌++◌, length, get_or, drop, is_ok, Ok, Result, sym, refl, ap, ◌∙◌, subst, append_assoc, append-nil, arith, length-append, le-leb}
 use Rattle.std.specs.List.{flat_map}
 use Rattle.std.proofs.lemmas.Bool.{cond-true}
-use Rattle.std.proofs.lemmas.Bool.Decides.{nat_tests}
 use Rattle.tape.specs.declared.writer.End.{End}
 use Rattle.tape.specs.Codes.{Refusal}
-use Rattle.tape.specs.Format.{Plain, time_of, size_of, good_symbol, good_fields, encode, tape_of}
-use Rattle.tape.specs.Reading.{Outcome, sound, faulty, put, one, over, bad, step, parse, count}
-use Rattle.tape.specs.Sound.{InOrder, Sound}
+use Rattle.tape.specs.Format.{Plain, time_of, size_of, good_symbol, good_fields, encode}
+use Rattle.tape.specs.Reading.{Outcome, sound, faulty, put, over, bad, step, parse, count}
+use Rattle.tape.specs.Sound.{InOrder}
 use Rattle.tape.specs.Writing.{answer, after, fitness, roomy, end_after, splice}
 use Rattle.tape.proofs.Means.{Bytes, sound_means}
 use Rattle.tape.proofs.Runs.{Sofar, start, turn, done as ended, failed}

@@ -1,13 +1,13 @@
 -- One record after another is offered: what a turn of that loop keeps.
-use Rattle.std.proofs.Common.{◌≡◌, ℕ, ◌+◌, ◌<◌, ◌≤◌, Bool, true, false, cond, leb, List, [], ◌∷◌, ◌++◌, map, length, get_or, take, drop, set, sym, refl, ap, ◌∙◌, subst, append_assoc, append-nil, arith, length-append}
+use Rattle.std.proofs.Common.{◌≡◌, ℕ, ◌+◌, ◌<◌, ◌≤◌, Bool, true, false, cond, List, [], ◌∷◌, ◌++◌, map, length, get_or, drop, set, sym, refl, ap, ◌∙◌, subst, append_assoc, append-nil, arith, length-append}
 use Rattle.std.proofs.lemmas.List.{at_drop_more, at_drop_all, length-map, get_or-map, length-set}
 use Rattle.std.proofs.lemmas.Bool.Decides.{nat_tests}
 use Rattle.tape.specs.declared.record.Record.{Record}
 use Rattle.tape.specs.declared.writer.End.{End}
 use Rattle.tape.specs.Format.{Plain, plain, time_of, size_of, good_symbol, good_fields, encode, tape_of}
 use Rattle.tape.specs.Reading.{parse}
-use Rattle.tape.specs.Sound.{InOrder, Sound, latest}
-use Rattle.tape.specs.Writing.{splice, answer, end_after}
+use Rattle.tape.specs.Sound.{InOrder, latest}
+use Rattle.tape.specs.Writing.{splice, end_after}
 use Rattle.tape_laws.specs.Keeping.{accepts, kept, overlaid, Holds}
 use Rattle.tape.proofs.Back.{reads_back}
 use Rattle.tape_laws.proofs.Filling.{Filled, filled_none, started, filled_long, filled_tape, filled_more, inorder_more, latest_more}

@@ -6,8 +6,8 @@ use Rattle.tape_laws.proofs.both.find_both.Goals as goal
 
 pub returns : goal.returns
 returns c =
-    let a = c.find-reference.ensures.gives in
-    let b = c.find-reference-2.ensures.gives in
+    let a = c.find_reference.ensures.gives in
+    let b = c.find_reference-2.ensures.gives in
     record {
       one = a;
       two = b;

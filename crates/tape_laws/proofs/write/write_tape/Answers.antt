@@ -1,17 +1,15 @@
-use Rattle.std.proofs.Common.{◌≡◌, ℕ, ◌+◌, ◌<◌, ◌≤◌, Bool, true, false, cond, leb, List, [], ◌∷◌, map, length, get_or, set, Ok, Err, Result, sym, refl, ap, ◌∙◌, subst, arith, rules}
-use Rattle.std.proofs.lemmas.List.{length-set, length-map, get_or-map}
+use Rattle.std.proofs.Common.{◌≡◌, ℕ, ◌<◌, ◌≤◌, Bool, true, false, cond, leb, List, [], ◌∷◌, map, length, get_or, set, Ok, Err, Result, sym, refl, ap, ◌∙◌, arith, rules}
+use Rattle.std.proofs.lemmas.List.{length-set, length-map}
 use Rattle.std.proofs.lemmas.Result.{err_from_is_err_and}
 use Rattle.std.proofs.lemmas.Bool.Decides.{nat_tests}
 use Rattle.tape.specs.declared.fault.WriteFault.{WriteFault}
 use Rattle.tape.specs.declared.fault.WriteFault.TheVariants.{Unfit, Full}
-use Rattle.tape.specs.declared.record.Record.{Record}
-use Rattle.tape.specs.declared.writer.End.{End}
 use Rattle.tape.specs.Codes.{Refusal, refused, refusing, write_refusal}
-use Rattle.tape.specs.Format.{Plain, plain, encode}
-use Rattle.tape.specs.Writing.{opening, splice, end_after}
+use Rattle.tape.specs.Format.{Plain, plain}
+use Rattle.tape.specs.Writing.{opening}
 use Rattle.tape_laws.specs.declared.write.Written.{Written}
-use Rattle.tape_laws.specs.Keeping.{accepts, kept, Holds, Keeps}
-use Rattle.tape_laws.proofs.Filling.{started, first_set}
+use Rattle.tape_laws.specs.Keeping.{Keeps}
+use Rattle.tape_laws.proofs.Filling.{first_set}
 use Rattle.tape_laws.proofs.Keepings.{kept_none, kept_turn, kept_all, holds_started}
 use Rattle.tape_laws.proofs.write.write_tape.Goals as goal
 
@@ -22,7 +20,7 @@ pub loop-item-init : goal.loop-item-init
 loop-item-init c =
     let b = c.args.buffer.now in
     let s = c.start-writer.ensures in
-    let some : 0 < length c.start-writer.result.buffer.now = opened _ _ refl c.in-ok-started.ensures in
+    let some : 0 < length c.start-writer.result.buffer.now = opened _ _ refl c.in_ok-started.ensures in
     let here : 0 < length b = omega (arith, some, ap length s.bytes, length-set b 0 1) in
     (refl, kept_none _ _ _ (ap (λ l. get_or l 0 0) s.bytes ∙ first_set b here) s.place s.time)
 
@@ -30,8 +28,8 @@ one_most : (t : Bool) (n : ℕ) → n ≡ cond t 1 0 → n ≤ 1
 one_most true n h = omega arith
 one_most false n h = omega arith
 
-pub overflow-add-records : goal.overflow-add-records
-overflow-add-records c =
+pub overflow_add-records : goal.overflow_add-records
+overflow_add-records c =
     let one = one_most _ _ c.offer-records.ensures.gives in
     let few = c.loop-item.invariant.1.few in
     search rules
@@ -65,10 +63,10 @@ full b after rs (Err (Unfit f)) e start is s told same =
     let v = ap write_refusal (sym u) ∙ k in
     absurd (let z : ◌≡◌ {A = ℕ} 0 1 = cc in omega arith)
 
-pub returns-in-err-started : goal.returns-in-err-started
-returns-in-err-started c =
-    let p = err_from_is_err_and c.from-residual.result c.from-residual.ensures.1 in
-    full c.args.buffer.now _ (map plain c.args.items.now) c.from-residual.result c.in-err-started.field-0.0 c.start-writer.result.buffer.now (p.1 ∙ ap Err p.2) c.start-writer.ensures.bytes c.in-err-started.ensures (search rules)
+pub returns-in_err-started : goal.returns-in_err-started
+returns-in_err-started c =
+    let p = err_from_is_err_and c.from_residual.result c.from_residual.ensures.1 in
+    full c.args.buffer.now _ (map plain c.args.items.now) c.from_residual.result c.in_err-started.field-0.0 c.start-writer.result.buffer.now (p.1 ∙ ap Err p.2) c.start-writer.ensures.bytes c.in_err-started.ensures (search rules)
 
 pub returns : goal.returns
 returns c =

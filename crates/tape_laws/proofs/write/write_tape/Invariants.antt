@@ -5,5 +5,5 @@ use Rattle.tape_laws.proofs.write.write_tape.Given as goal
 
 abbrev pub invariant-loop-item : goal.invariant-loop-item
 invariant-loop-item l =
-    (l.initial.writer.buffer.name ≡ l.writer.buffer.name)
+    (l.initial.writer.buffer.ghost_name ≡ l.writer.buffer.ghost_name)
     × Kept l.initial.writer.buffer.now (map plain l.items) l.item-index l.writer.buffer.now l.writer.end l.records
