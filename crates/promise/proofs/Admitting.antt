@@ -8,7 +8,7 @@ use Rattle.listings.specs.declared.series.OptionSeries.{OptionSeries}
 use Rattle.watches.specs.declared.state.AcceptedMark.{AcceptedMark}
 use Rattle.day.specs.declared.order.OptionOrder.{OptionOrder}
 use Rattle.day.specs.Answering.{underlying_in}
-use Rattle.days.specs.Asking.{CallData, Asked, well_formed, timely, moves}
+use Rattle.days.specs.Asking.{CallData, well_formed, timely, moves}
 use Rattle.days.specs.Telling.{Told, granted, refused, after_checks}
 use Rattle.days.specs.Due.{inside, halted, against, due_month, due_series, due_at}
 use Rattle.promise.specs.Fit.{FitFuture, FitOption}

@@ -1,17 +1,14 @@
 -- The promise, from what each day's part is.
-use Rattle.std.proofs.Common.{◌≡◌, ℕ, ◌≤◌, Bool, true, false, cond, List, Ok, Result, sym, refl, ap, ◌∙◌, subst, arith}
+use Rattle.std.proofs.Common.{◌≡◌, ℕ, Bool, true, false, cond, Ok, Result, sym, refl, ap, ◌∙◌, subst, arith}
 use Rattle.tape.specs.Codes.{Refusal}
 use Rattle.reference.specs.declared.finding.Reference.{Reference}
 use Rattle.reference.specs.declared.finding.Request.{Request}
 use Rattle.reference.specs.Finding as reference
 use Rattle.limits.specs.Meaning.{Meaning, Lawful}
-use Rattle.watches.specs.declared.state.AcceptedMark.{AcceptedMark}
 use Rattle.day.specs.declared.view.View.{View}
-use Rattle.days.specs.Asking.{CallData}
 use Rattle.days.specs.Telling.{Told}
 use Rattle.days.specs.Past.{clock, accepted}
 use Rattle.promise.specs.Parts.{Given, Part, not_opened, ran, reference_in, Referred, opens_at, opened, part_of, part_due}
-use Rattle.promise.specs.Same.{SameTapes, Agree, SameAsked}
 use Rattle.promise.specs.Promise.{Kept, OpenAlike, both, neither, Promise}
 use Rattle.promise.proofs.References.{one_due}
 use Rattle.promise.proofs.Runs.{Ran, run, ran_is, reference_is}

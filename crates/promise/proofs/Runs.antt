@@ -9,7 +9,7 @@ use Rattle.days.specs.Asking.{CallData}
 use Rattle.days.specs.Telling.{Told}
 use Rattle.days.specs.Past.{clock}
 use Rattle.days.specs.Due.{shown_due, told_due}
-use Rattle.promise.specs.Parts.{Part, no_reference, not_opened, ran, reference_in, opens_at, opened, part_of}
+use Rattle.promise.specs.Parts.{Part, not_opened, ran, reference_in, opens_at, opened, part_of}
 
 -- what a part that ran holds
 pub record Ran (m : Meaning) (r : Reference) (p : ℕ) (cs : List CallData) (c : CallData) (k : ℕ) (v : View) (a : Told) : Type 0 where

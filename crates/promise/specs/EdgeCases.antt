@@ -15,15 +15,13 @@ use Rattle.rules.specs.Figures.{closes_sound}
 use Rattle.rules.specs.Named.{daily, quarterly}
 use Rattle.rules.specs.Worked.{mild, uneven}
 use Rattle.listings.specs.declared.code.MonthCode.{MonthCode}
-use Rattle.listings.specs.declared.futures.FuturesMonth.{FuturesMonth}
 use Rattle.watches.specs.declared.state.Kind.{Kind}
 use Rattle.watches.specs.declared.state.Kind.TheVariants.{Bid, Offered, Clear}
 use Rattle.watches.specs.declared.state.Side.TheVariants.{Upper, Lower}
 use Rattle.watches.specs.Reading.{level, halt}
-use Rattle.day.specs.declared.view.View.{View}
 use Rattle.day.specs.Form.{futures_tick}
 use Rattle.days.specs.Asking.{CallData, mark, look, future}
-use Rattle.days.specs.Telling.{Told, granted, shows, refused}
+use Rattle.days.specs.Telling.{granted, shows, refused}
 use Rattle.days.specs.Past.{accepted}
 use Rattle.days.specs.Due.{bounds_at, halted, told_due}
 use Rattle.promise.specs.Parts.{opens_at}

@@ -8,6 +8,6 @@ three x y z a b c e f g = cc
 
 pub returns : goal.returns
 returns c = record {
-  levels = three _ _ _ _ _ _ c.limits-at.ensures c.limits-at-2.ensures c.limits-at-3.ensures ∙ settled.daily_limits.limits;
+  levels = three _ _ _ _ _ _ c.limits_at.ensures c.limits_at-2.ensures c.limits_at-3.ensures ∙ settled.daily_limits.limits;
   cases = settled;
 }

@@ -4,8 +4,8 @@ use Rattle.promise.proofs.pair.pair_days.Goals as goal
 
 pub returns : goal.returns
 returns g c =
-    let one = c.run-day.ensures in
-    let two = c.run-day-2.ensures in
+    let one = c.run_day.ensures in
+    let two = c.run_day-2.ensures in
     promised (g.R.LimitRule.means c.args.rule) c.args.request.now (g.met.R.LimitRule.lawful c.args.rule)
-    (given_by c.args.first.now) (given_by c.args.second.now) (part_told c.run-day.result) (part_told c.run-day-2.result)
+    (given_by c.args.first.now) (given_by c.args.second.now) (part_told c.run_day.result) (part_told c.run_day-2.result)
     one.part two.part one.refers two.refers
