@@ -147,24 +147,17 @@ impl Session {
         line: u64,
         change: Change<'_>,
     ) -> io::Result<()> {
-        self.calls.changed = true;
         let rosters = &mut self.rosters;
-        match change {
-            Change::Month(words) => print_listed(out, line, "listed", rosters.enter_month(words)),
-            Change::DropMonth(words) => print_listed(
-                out,
-                line,
-                "delisted",
-                rosters.remove_month(words),
-            ),
-            Change::Series(words) => print_listed(out, line, "listed", rosters.enter_series(words)),
-            Change::DropSeries(words) => print_listed(
-                out,
-                line,
-                "delisted",
-                rosters.remove_series(words),
-            ),
+        let (word, done) = match change {
+            Change::Month(words) => ("listed", rosters.enter_month(words)),
+            Change::DropMonth(words) => ("delisted", rosters.remove_month(words)),
+            Change::Series(words) => ("listed", rosters.enter_series(words)),
+            Change::DropSeries(words) => ("delisted", rosters.remove_series(words)),
+        };
+        if done.is_ok() {
+            self.calls.changed = true;
         }
+        print_listed(out, line, word, done)
     }
 
     // Fresh, empty rosters with at most as many places as a roster uses.
