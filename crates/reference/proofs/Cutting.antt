@@ -1,15 +1,11 @@
 -- The part between two edges of a tape holds the records between them.
-use Rattle.std.proofs.Common.{◌≡◌, ℕ, ◌+◌, ◌-◌, ◌*◌, ◌≤◌, true, List, length, take, drop, Ok, Err, filter, sym, ap, ◌∙◌, arith}
+use Rattle.std.proofs.Common.{◌≡◌, ℕ, ◌+◌, ◌-◌, ◌*◌, ◌≤◌, List, length, take, drop, filter, sym, ap, ◌∙◌, arith}
 use Rattle.std.specs.List.{flat_map}
-use Rattle.std.proofs.lemmas.Bool.{cond-true}
-use Rattle.std.proofs.lemmas.Bool.Decides.{nat_tests}
-use Rattle.tape.specs.Codes.{refused}
 use Rattle.tape.specs.Format.{encode}
-use Rattle.tape.specs.Reading.{parse}
 use Rattle.reference.specs.declared.window.Edges.{Edges}
 use Rattle.reference.specs.declared.window.Part.{Part}
 use Rattle.reference.specs.Sums.{row_of}
-use Rattle.reference.specs.Windows.{fit_range, within, bytes_of, edge, cut_in, cut, parted, Holds}
+use Rattle.reference.specs.Windows.{within, bytes_of, edge, Holds}
 use Rattle.reference.specs.Edges.{lowest, Edged}
 use Rattle.reference.proofs.Parts.{part_holds, row_holds, length_row, between, edge_inside}
 
@@ -51,21 +47,3 @@ module _ (b : List ℕ) (e : Edges) (w start end : ℕ) (h : Edged b e) (few : w
         bytes = row;
         reads = ap row_of row ∙ row_holds (within (e.close - 30000 * w) e.close) h.records h.whole.inorder;
       }
-
--- what holds the window's records is the part that is to be cut
-pub cut_is : (b : List ℕ) (close w : ℕ) (p : Part) → fit_range close w ≡ true → Holds b (close - 30000 * w) close p → parted (Ok p) ≡ cut close w b
-cut_is b close w p fits h =
-    let low = close - 30000 * w in
-    let n = bytes_of (filter (within low close) h.records) in
-    let bytes : p.bytes.now ≡ take n (drop (edge low h.records) b) =
-    h.part ∙ ap (λ k. take k (drop p.place b)) h.long ∙ ap (λ k. take n (drop k b)) h.place in
-    ap (λ k. Ok (record { place = k; bytes = p.bytes.now })) h.place
-    ∙ ap (λ l. Ok (record { place = edge low h.records; bytes = l })) bytes
-    ∙ ap (cut_in low close b) (sym h.parsed)
-    ∙ sym (cond-true (fit_range close w) (cut_in low close b (parse b)) (Err (refused 8)) fits)
-
-pub part_short : (b : List ℕ) (low high : ℕ) (p : Part) → Holds b low high p → length p.bytes.now ≤ 1048576
-part_short b low high p h = omega (arith, h.ends, edge_inside b h.records high h.whole, h.whole.short)
-
-pub few_windows : (close w : ℕ) → fit_range close w ≡ true → w ≤ 20
-few_windows close w h = grind (arith, nat_tests)

@@ -6,3 +6,4 @@ pub mod Noting
 pub mod Parts
 pub mod Searching
 pub mod Tallying
+pub mod Least

@@ -1,28 +1,17 @@
 -- The search, tier by tier and window by window, is the search as it is stated.
-use Rattle.std.proofs.Common.{◌≡◌, ℕ, suc, ◌+◌, ◌-◌, ◌*◌, ◌<◌, ◌≤◌, Bool, true, false, cond, ◌&&◌, List, [], ◌∷◌, length, get_or, drop, Some, None, Ok, Err, filter, Option, sym, refl, ap, ◌∙◌, arith}
-use Rattle.std.specs.Option.{option_map, ok_or}
-use Rattle.std.proofs.lemmas.List.{at_drop_more, at_drop_all}
+use Rattle.std.proofs.Common.{◌≡◌, ℕ, suc, ◌+◌, ◌-◌, ◌*◌, ◌<◌, ◌≤◌, Bool, true, false, cond, ◌&&◌, List, [], ◌∷◌, Some, None, Ok, Err, filter, Option, sym, refl, ap, ◌∙◌, arith}
+use Rattle.std.specs.Option.{ok_or}
 use Rattle.std.proofs.lemmas.Bool.{cond-true}
-use Rattle.std.proofs.lemmas.Bool.Decides.{nat_tests}
-use Rattle.tape.specs.Codes.{Refusal, refused}
+use Rattle.tape.specs.Codes.{refused}
 use Rattle.tape.specs.Format.{Plain}
-use Rattle.tape.specs.Reading.{Outcome, sound, parse}
-use Rattle.reference.specs.declared.finding.Tier.{Tier}
-use Rattle.reference.specs.declared.finding.Tier.TheVariants.{Trades}
+use Rattle.tape.specs.Reading.{sound, parse}
 use Rattle.reference.specs.declared.finding.Request.{Request}
 use Rattle.reference.specs.declared.finding.Reference.{Reference}
 use Rattle.reference.specs.declared.sums.Tallies.{Tallies}
 use Rattle.reference.specs.declared.window.Part.{Part}
-use Rattle.reference.specs.Finding.{answer, else_by, tiers, first_tier, means_of, window, first_window, fit, searched, due, mean_in}
+use Rattle.reference.specs.Finding.{else_by, tiers, first_tier, means_of, window, first_window, fit, searched, due, mean_in}
 use Rattle.reference.specs.Sums.{named, tallies_of, tallied, row_of}
 use Rattle.reference.specs.Windows.{within, Holds}
-
-pub tier_step : (means : Tier → Option ℕ) (w : ℕ) (ts : List Tier) (i : ℕ) (m : Option ℕ) → i < length ts → m ≡ means (get_or ts i Trades) → first_tier means w (drop i ts) ≡ else_by (option_map (answer (get_or ts i Trades) w) m) (first_tier means w (drop (i + 1) ts))
-tier_step means w ts i m h e =
-    at_drop_more (first_tier means w) ts i Trades h ∙ ap (λ m. else_by (option_map (answer (get_or ts i Trades) w) m) (first_tier means w (drop (i + 1) ts))) (sym e)
-
-pub tier_end : (means : Tier → Option ℕ) (w : ℕ) (ts : List Tier) (i : ℕ) → length ts ≤ i → first_tier means w (drop i ts) ≡ None
-tier_end means w ts i h = at_drop_all (first_tier means w) ts i h
 
 -- one filter behind another
 kept_one : {X : Type 0} (a b : Bool) (x : X) (q : X → Bool) (rest ys : List X) → q x ≡ b → ys ≡ filter q rest → cond (a && b) (x ∷ ys) ys ≡ filter q (cond a (x ∷ rest) rest)
@@ -32,13 +21,6 @@ kept_one false b x q rest ys e h = h
 kept_and : {X : Type 0} (p q : X → Bool) (xs : List X) → filter (λ x. p x && q x) xs ≡ filter q (filter p xs)
 kept_and p q [] = refl
 kept_and p q (x ∷ xs) = kept_one (p x) (q x) x q (filter p xs) (filter (λ x. p x && q x) xs) refl (kept_and p q xs)
-
--- a part of a sound tape is not refused
-not_refused : (s : List ℕ) (o : Outcome) (rs : List Plain) (f : Refusal) → o ≡ sound rs → Err f ≡ tallied s o → ⊥
-not_refused s o rs f is h = let e = h ∙ ap (tallied s) is in let z : ◌≡◌ {A = ℕ} 0 1 = cc in omega arith
-
-pub part_sound : (b : List ℕ) (low high : ℕ) (p : Part) (s : List ℕ) (f : Refusal) → Holds b low high p → Err f ≡ tallied s (row_of p.bytes.now) → ⊥
-part_sound b low high p s f h e = not_refused s (row_of p.bytes.now) (filter (within low high) h.records) f h.reads e
 
 module _ (q : Request) (b : List ℕ) (w : ℕ) (part : Part) (t : Tallies) (m : Option Reference) (h : Holds b (q.close - 30000 * w) q.close part) (sums : Ok t ≡ tallied q.symbol.now (row_of part.bytes.now)) (found : m ≡ first_tier (mean_in t) w tiers) where
   tallies_are : t ≡ tallies_of (window q.symbol.now q.close w h.records)
@@ -73,6 +55,3 @@ window_end q b w rs parsed h = let n : q.windows + 1 - w ≡ 0 = omega arith in 
 
 pub due_is : (q : Request) (b : List ℕ) → fit q ≡ true → searched q.symbol.now q.close (parse b) 1 q.windows ≡ due q b
 due_is q b h = sym (cond-true (fit q) (searched q.symbol.now q.close (parse b) 1 q.windows) (Err (refused 8)) h)
-
-pub few_windows : (q : Request) → fit q ≡ true → q.windows ≤ 20
-few_windows q h = grind (arith, nat_tests)

@@ -10,7 +10,7 @@ use Rattle.tape.proofs.Steps.{Came}
 use Rattle.reference.specs.declared.sums.Sums.{Sums}
 use Rattle.reference.specs.declared.sums.Tallies.{Tallies}
 use Rattle.reference.specs.Priced.{Kind, Fair, trade_kind, quote_kind}
-use Rattle.reference.specs.Sums.{named, added, both, tallied, row_of, Roomy, MeanFits, MeansFit}
+use Rattle.reference.specs.Sums.{named, added, both, tallied, row_of}
 use Rattle.reference.proofs.Adding.{fair_product}
 
 -- what one record does to the sums
@@ -79,12 +79,6 @@ pub record Tallied (s xs : List ℕ) (t : Tallies) (at last : ℕ) : Type 0 wher
   pub quotes : Bounded 2 at t.quotes
   pub sofar : Sofar (tallied_from s) (tallied s (row_of xs)) xs t at last
 
-roomy : (n at : ℕ) (s : Sums) → at ≤ 1048576 → Bounded n at s → Roomy s
-roomy n at s h b = (omega (arith, b.total), omega (arith, b.weights))
-
-small : (n at : ℕ) (s : Sums) → at ≤ 1048576 → Bounded n at s → MeanFits n s
-small n at s h b = (omega (arith, b.weights), b.priced)
-
 module _ (s xs : List ℕ) where
   pub tallied_start : (at last : ℕ) → length xs ≤ 1048576 → at ≡ 0 → last ≡ 0 → Tallied s xs none at last
   tallied_start at last short a l =
@@ -99,12 +93,6 @@ module _ (s xs : List ℕ) where
       }
 
   module _ (t : Tallies) (at last : ℕ) (h : Tallied s xs t at last) where
-    pub room : Roomy t.trades × Roomy t.quotes
-    room = (roomy 1 at t.trades (omega (arith, h.inside, h.short)) h.trades, roomy 2 at t.quotes (omega (arith, h.inside, h.short)) h.quotes)
-
-    pub fits : MeansFit t
-    fits = (small 1 at t.trades (omega (arith, h.inside, h.short)) h.trades, small 2 at t.quotes (omega (arith, h.inside, h.short)) h.quotes)
-
     moved : (u : Tallies) (next after q : ℕ) (r : Plain) → Came xs at last next after q r → u ≡ tallying s t r → Bounded 1 (at + size_of r) u.trades → Bounded 2 (at + size_of r) u.quotes → Tallied s xs u next after
     moved u next after q r k is bt bq =
         record {

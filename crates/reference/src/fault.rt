@@ -6,7 +6,7 @@ ghost use Rattle.reference.specs.declared.fault.ReferenceFault.TheVariants.{Tape
 use tape::fault::TapeFault;
 
 /// Why there is no reference price, or no window.
-#[derive(Clone, Copy)]
+#[derive(Clone, Copy, Debug, PartialEq, Eq)]
 pub enum ReferenceFault {
     Tape(TapeFault),
     /// The request is out of range.
@@ -15,6 +15,7 @@ pub enum ReferenceFault {
     NoMean,
 }
 
+// Kept: a derived From has no contract, and contracts here name the variant.
 impl From<TapeFault> for ReferenceFault {
     ghost from_gives = { λ e r. r ≡ Tape e };
 
@@ -27,6 +28,7 @@ impl ReferenceFault {
     pub fn code(&self) -> u8
         ensures { result ≡ code_of (reference_refusal self.now) }
     {
+        // Kept: a variant carries a fault, so no discriminant can be its number.
         match self {
             ReferenceFault::Tape(fault) => fault.code(),
             ReferenceFault::Request => 8,
@@ -40,8 +42,7 @@ impl ReferenceFault {
     {
         match self {
             ReferenceFault::Tape(fault) => fault.place(),
-            ReferenceFault::Request => None,
-            ReferenceFault::NoMean => None,
+            ReferenceFault::Request | ReferenceFault::NoMean => None,
         }
     }
 }

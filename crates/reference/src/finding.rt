@@ -9,21 +9,20 @@ use super::fault::ReferenceFault;
 use super::priced::{Quote, Trade};
 use super::sums::{Tallies, tally};
 use super::window::{find_edges, is_range};
-
-const MAX_SYMBOL: usize = 12;
+use tape::record::is_symbol;
 
 /// What a reference price is the mean of.
-#[derive(Clone, Copy)]
+#[derive(Clone, Copy, Debug, PartialEq, Eq)]
 pub enum Tier {
-    Trades,
-    Quotes,
+    Trades = 1,
+    Quotes = 2,
 }
 
 // In the order in which they are tried.
 const TIERS: [Tier; 2] = [Tier::Trades, Tier::Quotes];
 
 /// Asks for the reference price of a symbol from at most so many windows before a close.
-#[derive(Clone, Copy)]
+#[derive(Clone, Copy, Debug, PartialEq, Eq)]
 pub struct Request<'a> {
     pub symbol: &'a [u8],
     pub close: u32,
@@ -31,7 +30,7 @@ pub struct Request<'a> {
 }
 
 /// A price in hundredths of a point, what it is the mean of, and how many windows were tried to find it.
-#[derive(Clone, Copy)]
+#[derive(Clone, Copy, Debug, PartialEq, Eq)]
 pub struct Reference {
     pub price: u32,
     pub tier: Tier,
@@ -42,10 +41,7 @@ impl Tier {
     pub fn number(&self) -> u8
         ensures { result ≡ tier_number self.now }
     {
-        match self {
-            Tier::Trades => 1,
-            Tier::Quotes => 2,
-        }
+        *self as u8
     }
 }
 
@@ -53,9 +49,7 @@ impl<'a> Request<'a> {
     fn is_fit(&self) -> bool
         ensures { result ≡ fit self.now }
     {
-        1 <= self.symbol.len()
-            && self.symbol.len() <= MAX_SYMBOL
-            && is_range(self.close, self.windows)
+        is_symbol(self.symbol) && is_range(self.close, self.windows)
     }
 }
 
@@ -74,6 +68,7 @@ fn first_mean(tallies: &Tallies, windows: u32, tiers: &[Tier]) -> Option<Referen
     requires { MeansFit tallies.now }
     ensures { result ≡ first_tier (mean_in tallies.now) windows tiers.now }
 {
+    // Kept: of a `find_map` it stayed unproved that the tiers before the one found have no mean.
     for tier in tiers {
         if let Some(price) = tier_mean(tallies, *tier) {
             return Some(Reference {

@@ -12,19 +12,16 @@ const WIDTH: u32 = 3_000;
 pub(super) trait Priced: Sized {
     const DIVISOR: u32;
 
+    ghost DIVISOR: { ℕ };
+
     ghost weighs: { Self → ℕ };
 
     ghost worth: { Self → ℕ };
 
-    ghost shares: { ℕ };
-
     ghost among: { Plain → Option Self };
 
-    // The divisor: generic code knows nothing of the constant itself.
-    fn divided_by() -> u32
-        ensures { result ≡ shares };
-
     // What a record tells of, if it is of this kind.
+    // Kept: TryFrom would need an error that its one caller throws away.
     fn of(item: &Record) -> Option<Self>
         ensures { result ≡ among (plain item.now) };
 
@@ -35,9 +32,9 @@ pub(super) trait Priced: Sized {
         ensures { result ≡ worth self.now };
 
     // What keeps the sums within 64 bits and the mean a price.
-    ghost fair: { (r : Plain) → good_fields r ≡ true → IfSome (among r) (λ x. Fair shares (weighs x) (worth x)) };
+    ghost fair: { (r : Plain) → good_fields r ≡ true → IfSome (among r) (λ x. Fair DIVISOR (weighs x) (worth x)) };
 
-    ghost divides: { (0 < shares) × (shares ≤ 8) };
+    ghost divides: { (0 < DIVISOR) × (DIVISOR ≤ 8) };
 }
 
 #[derive(Clone, Copy)]
@@ -57,32 +54,24 @@ impl Quote {
     fn counts_within(&self, width: u32) -> u32
         ensures { result ≡ narrow width self.now.bid self.now.offer }
     {
-        if self.offer.saturating_sub(self.bid) <= width {
-            1
-        } else {
-            0
-        }
+        u32::from(self.offer.saturating_sub(self.bid) <= width)
     }
 }
 
 impl Priced for Trade {
     const DIVISOR: u32 = 1;
 
+    ghost DIVISOR = { 1 };
+
     ghost weighs = { λ x. x.volume };
 
     ghost worth = { λ x. x.price };
-
-    ghost shares = { 1 };
 
     ghost among = { as_trade };
 
     ghost fair = { Prim.search rules };
 
     ghost divides = { Prim.search rules };
-
-    fn divided_by() -> u32 {
-        Self::DIVISOR
-    }
 
     fn of(item: &Record) -> Option<Trade> {
         match *item {
@@ -103,21 +92,17 @@ impl Priced for Trade {
 impl Priced for Quote {
     const DIVISOR: u32 = 2;
 
+    ghost DIVISOR = { 2 };
+
     ghost weighs = { λ x. narrow 3000 x.bid x.offer };
 
     ghost worth = { λ x. x.bid + x.offer };
-
-    ghost shares = { 2 };
 
     ghost among = { as_quote };
 
     ghost fair = { Prim.search rules };
 
     ghost divides = { Prim.search rules };
-
-    fn divided_by() -> u32 {
-        Self::DIVISOR
-    }
 
     fn of(item: &Record) -> Option<Quote> {
         match *item {

@@ -10,30 +10,26 @@ use tape::reader::Reader;
 use tape::record::Record;
 
 // The sum of weight times value, and the sum of the weights.
-#[derive(Clone, Copy)]
+#[derive(Clone, Copy, Default)]
 pub(super) struct Sums {
     total: u64,
     weights: u64,
 }
 
 // The sums of one row of records, for each kind of priced thing.
-#[derive(Clone, Copy)]
+// Kept: that the means fit is no ghost field: specs/ builds sums of any row of records, and of one too long it is false.
+#[derive(Clone, Copy, Default)]
 pub(super) struct Tallies {
     pub(super) trades: Sums,
     pub(super) quotes: Sums,
 }
-
-const NOTHING: Sums = Sums {
-    total: 0,
-    weights: 0,
-};
 
 impl Sums {
     // The sums with one more record.
     fn with<P: Priced + Drop>(self, item: &Record) -> Sums
         requires item_value { good_fields (plain item.now) ≡ true }
         requires roomy { Roomy self }
-        ensures { result ≡ added (kind_of P.Priced.among P.Priced.weighs P.Priced.worth P.Priced.shares) self (plain item.now) }
+        ensures { result ≡ added (kind_of P.Priced.among P.Priced.weighs P.Priced.worth P.Priced.DIVISOR) self (plain item.now) }
     {
         let Some(thing) = P::of(item) else {
             return self;
@@ -47,14 +43,11 @@ impl Sums {
 
     // The mean in hundredths of a point, rounded down; none where nothing weighs anything.
     pub(super) fn mean<P: Priced>(&self) -> Option<u32>
-        requires { MeanFits P.Priced.shares self.now }
-        ensures { result ≡ mean_of P.Priced.shares self.now.total self.now.weights }
+        requires { MeanFits P.Priced.DIVISOR self.now }
+        ensures { result ≡ mean_of P.Priced.DIVISOR self.now.total self.now.weights }
     {
-        if self.weights == 0 {
-            return None;
-        }
-        let divisor = u64::from(P::divided_by());
-        Some((self.total / (divisor * self.weights)) as u32)
+        let divisor = u64::from(P::DIVISOR) * self.weights;
+        self.total.checked_div(divisor).map(|mean| mean as u32)
     }
 }
 
@@ -84,10 +77,7 @@ pub(super) fn tally(part: &[u8], symbol: &[u8]) -> Result<Tallies, TapeFault>
     ensures fits { IfOk result MeansFit }
 {
     let mut reader = Reader::part(part);
-    let mut tallies = Tallies {
-        trades: NOTHING,
-        quotes: NOTHING,
-    };
+    let mut tallies = Tallies::default();
     while let Some(placed) = reader.next()? {
         if is_named(&placed.record, symbol) {
             tallies = tallies.with(&placed.record);

@@ -17,7 +17,7 @@ const LAST_CLOSE: u32 = 86_400_000;
 const EDGES: usize = 1 + MAX_WINDOWS as usize;
 
 /// A part of a tape, and where it begins there.
-#[derive(Clone, Copy)]
+#[derive(Clone, Copy, Debug, PartialEq, Eq)]
 pub struct Part<'a> {
     pub place: usize,
     pub bytes: &'a [u8],
@@ -31,13 +31,12 @@ pub(super) struct Edges {
     places: [usize; EDGES],
 }
 
+// Kept: close and windows are two of a request's fields, of which a window has no symbol.
 pub(super) fn is_range(close: u32, windows: u32) -> bool
     ensures { result ≡ fit_range close windows }
 {
-    WIDENING <= close
-        && close <= LAST_CLOSE
-        && 1 <= windows
-        && windows <= MAX_WINDOWS
+    (WIDENING..=LAST_CLOSE).contains(&close)
+        && (1..=MAX_WINDOWS).contains(&windows)
         && WIDENING * windows <= close
 }
 
@@ -58,6 +57,7 @@ impl Edges {
         ensures places { self.new.places ≡ slice_set self.old.places (window_of self.old.close time) (min (slice_index self.old.places (window_of self.old.close time)) place) }
     {
         let window = window_of(self.close, time);
+        // Kept: by `get_mut` it stayed unproved what the places end as, of which its contract says nothing.
         if window < EDGES {
             self.places[window] = self.places[window].min(place);
         }
@@ -68,11 +68,7 @@ impl Edges {
         requires { windows ≤ 20 }
         ensures { result ≡ lowest self.now.places windows }
     {
-        let mut edge = self.places[0];
-        for i in 0..windows {
-            edge = edge.min(self.places[i + 1]);
-        }
-        edge
+        self.places[0..=windows].iter().copied().min().unwrap_or(0)
     }
 
     // The part of the tape with these edges that holds a window's records.

@@ -28,8 +28,12 @@ abbrev pub place_of : Refusal → Option ℕ
 place_of (refused k) = None
 place_of (refused_at k p) = Some p
 
+-- a flaw in the record at the place p
+abbrev pub flaw_at : ℕ → Flaw → Refusal
+flaw_at p e = refused_at (flaw_number e) p
+
 abbrev pub record_refusal : RecordFault → Refusal
-record_refusal f = refused_at (flaw_number f.flaw) f.place
+record_refusal f = flaw_at f.place f.flaw
 
 abbrev pub tape_refusal : TapeFault → Refusal
 tape_refusal TooLong = refused 7

@@ -1,8 +1,21 @@
 -- The tape's format: a record, the limits of its fields, its bytes, and the bytes of a whole tape.
-use Rattle.std.specs.Prelude.{ℕ, ◌+◌, ◌/◌, ◌%◌, Bool, false, cond, List, [], ◌∷◌, ◌++◌, length, nat_le}
+use Rattle.std.specs.Prelude.{ℕ, ◌+◌, ◌/◌, ◌%◌, Bool, false, cond, List, [], ◌∷◌, ◌++◌, length, Ok, Err, Result, ◌==◌, nat_le}
 use Rattle.std.specs.List.{flat_map}
 use Rattle.tape.specs.declared.record.Record.{Record}
-use Rattle.tape.specs.declared.record.Record.TheVariants.{Trade, Quote}
+use Rattle.tape.specs.declared.fault.Flaw.{Flaw}
+use Rattle.tape.specs.declared.fault.Flaw.TheVariants.{Kind}
+use Rattle.tape.specs.declared.record.Fields.{Fields}
+use Rattle.tape.specs.declared.record.RecordKind.{RecordKind}
+use Rattle.tape.specs.declared.record.RecordKind.TheVariants.{Trade, Quote}
+use Rattle.tape.specs.declared.record.Record.TheVariants.{Trade as TradeRecord, Quote as QuoteRecord}
+
+-- the number of a kind, and the kind of a number
+abbrev pub kind_number : RecordKind → ℕ
+kind_number Trade = 1
+kind_number Quote = 2
+
+abbrev pub kind_numbered : ℕ → Result RecordKind Flaw
+kind_numbered k = cond (k == 1) (Ok Trade) (cond (k == 2) (Ok Quote) (Err Kind))
 
 -- a record free of references: time, two numbers and the symbol's bytes
 pub data Plain : Type 0 where
@@ -11,8 +24,16 @@ pub data Plain : Type 0 where
 
 -- the value of a record whose symbol is borrowed
 abbrev pub plain : Record → Plain
-plain (Trade t p v s) = trade t p v s.now
-plain (Quote t b o s) = quote t b o s.now
+plain (TradeRecord t p v s) = trade t p v s.now
+plain (QuoteRecord t b o s) = quote t b o s.now
+
+-- what the fields of a record stand for
+abbrev pub as_kind : RecordKind → ℕ → ℕ → ℕ → List ℕ → Plain
+as_kind Trade t a b s = trade t a b s
+as_kind Quote t a b s = quote t a b s
+
+abbrev pub meant : Fields → Plain
+meant f = as_kind f.kind f.time f.first f.second f.symbol.now
 
 abbrev pub kind_of : Plain → ℕ
 kind_of (trade t p v s) = 1

@@ -1,12 +1,11 @@
 -- What a reader makes of bytes: the record at their front, the next step from a place, and all steps of a tape.
 use Rattle.std.specs.Prelude.{◌≡◌, ℕ, zero, suc, ◌+◌, ◌*◌, ◌≤◌, cond, List, [], ◌∷◌, length, take, drop, Some, None, Ok, Err, Option, Result, ◌==◌, nat_le, slice_index}
 use Rattle.tape.specs.declared.fault.Flaw.{Flaw}
-use Rattle.tape.specs.declared.fault.RecordFault.{RecordFault}
 use Rattle.tape.specs.declared.fault.TapeFault.{TapeFault}
 use Rattle.tape.specs.declared.record.Record.{Record}
 use Rattle.tape.specs.declared.reader.Placed.{Placed}
 use Rattle.tape.specs.declared.reader.Reader.{Reader}
-use Rattle.tape.specs.Codes.{Refusal, refused, refused_at, flaw_number, record_refusal, tape_refusal}
+use Rattle.tape.specs.Codes.{Refusal, refused, refused_at, flaw_number, flaw_at, tape_refusal}
 use Rattle.tape.specs.Format.{Plain, trade, quote, plain, time_of, size_of, good_fields, within}
 
 -- the big-endian numbers at a place
@@ -42,9 +41,9 @@ abbrev pub plainly : Result Record Flaw → Result Plain ℕ
 plainly (Ok r) = Ok (plain r)
 plainly (Err e) = Err (flaw_number e)
 
-abbrev pub plainly_at : Result Record RecordFault → Result Plain Refusal
-plainly_at (Ok r) = Ok (plain r)
-plainly_at (Err e) = Err (record_refusal e)
+abbrev pub plainly_at : ℕ → Result Record Flaw → Result Plain Refusal
+plainly_at p (Ok r) = Ok (plain r)
+plainly_at p (Err e) = Err (flaw_at p e)
 
 -- what comes next: the end, a record with its place, or a refusal
 pub data Step : Type 0 where

@@ -4,27 +4,27 @@ ghost use Rattle.tape.specs.declared.fault.TapeFault.TheVariants.{Broken};
 ghost use Rattle.tape.specs.declared.fault.WriteFault.TheVariants.{Unfit};
 
 /// What is wrong with one record.
-#[derive(Clone, Copy)]
+#[derive(Clone, Copy, Debug, PartialEq, Eq)]
 pub enum Flaw {
     /// Its length or its body is cut short.
-    Short,
-    Kind,
+    Short = 2,
+    Kind = 3,
     /// Its body's length, or its symbol's, is out of range.
-    Length,
-    Field,
+    Length = 4,
+    Field = 5,
     /// It is earlier than the record before it.
-    Backward,
+    Backward = 6,
 }
 
 /// A flawed record: where its length begins, or would begin.
-#[derive(Clone, Copy)]
+#[derive(Clone, Copy, Debug, PartialEq, Eq)]
 pub struct RecordFault {
     pub place: usize,
     pub flaw: Flaw,
 }
 
 /// Why a tape is not sound.
-#[derive(Clone, Copy)]
+#[derive(Clone, Copy, Debug, PartialEq, Eq)]
 pub enum TapeFault {
     TooLong,
     Version,
@@ -32,12 +32,13 @@ pub enum TapeFault {
 }
 
 /// Why a tape could not be started, or a record not be appended.
-#[derive(Clone, Copy)]
+#[derive(Clone, Copy, Debug, PartialEq, Eq)]
 pub enum WriteFault {
     Unfit(RecordFault),
     Full,
 }
 
+// Kept: a derived From has no contract, and contracts here name the variant.
 impl From<RecordFault> for TapeFault {
     ghost from_gives = { λ e r. r ≡ Broken e };
 
@@ -46,6 +47,7 @@ impl From<RecordFault> for TapeFault {
     }
 }
 
+// Kept: a derived From has no contract, and contracts here name the variant.
 impl From<RecordFault> for WriteFault {
     ghost from_gives = { λ e r. r ≡ Unfit e };
 
@@ -58,13 +60,7 @@ impl Flaw {
     pub fn code(&self) -> u8
         ensures { result ≡ flaw_number self.now }
     {
-        match self {
-            Flaw::Short => 2,
-            Flaw::Kind => 3,
-            Flaw::Length => 4,
-            Flaw::Field => 5,
-            Flaw::Backward => 6,
-        }
+        *self as u8
     }
 }
 
@@ -72,6 +68,7 @@ impl TapeFault {
     pub fn code(&self) -> u8
         ensures { result ≡ code_of (tape_refusal self.now) }
     {
+        // Kept: a variant carries a fault, so no discriminant can be its number.
         match self {
             TapeFault::TooLong => 7,
             TapeFault::Version => 1,
@@ -94,6 +91,7 @@ impl WriteFault {
     pub fn code(&self) -> u8
         ensures { result ≡ code_of (write_refusal self.now) }
     {
+        // Kept: a variant carries a fault, so no discriminant can be its number.
         match self {
             WriteFault::Unfit(fault) => fault.flaw.code(),
             WriteFault::Full => 12,

@@ -11,38 +11,19 @@ use super::record::{Record, read_front};
 pub const MAX_TAPE: usize = 1_048_576;
 
 /// A record and where its length begins on the tape.
-#[derive(Clone, Copy)]
+#[derive(Clone, Copy, Debug, PartialEq, Eq)]
 pub struct Placed<'a> {
     pub place: usize,
     pub record: Record<'a>,
 }
 
 /// Reads a tape record by record; the records' symbols are parts of the tape.
+// Kept: each record and fault is told with its place, which the rest of the tape alone would not give.
 #[derive(Drop)]
 pub struct Reader<'a> {
     tape: &'a [u8],
     at: usize,
     last: u32,
-}
-
-// The record at a place, which is not to be earlier than `last`.
-fn record_at(tape: &[u8], place: usize, last: u32) -> Result<Record<'_>, RecordFault>
-    requires { place < length tape.now }
-    ensures gives { plainly_at result ≡ timely place last (front (drop place tape.now)) }
-    ensures within { IfOk result (λ x. place + size_of (plain x) ≤ length tape.now) }
-{
-    match read_front(&tape[place..]) {
-        Ok(record) => {
-            if record.time() < last {
-                return Err(RecordFault {
-                    place,
-                    flaw: Flaw::Backward,
-                });
-            }
-            Ok(record)
-        }
-        Err(flaw) => Err(RecordFault { place, flaw }),
-    }
 }
 
 impl<'a> Reader<'a> {
@@ -76,7 +57,21 @@ impl<'a> Reader<'a> {
         }
     }
 
+    // The record at the reader's place, which is before the tape's end.
+    fn front_record(&self) -> Result<Record<'a>, Flaw>
+        requires { self.now.at < length self.now.tape.now }
+        ensures gives { plainly_at self.now.at result ≡ timely self.now.at self.now.last (front (drop self.now.at self.now.tape.now)) }
+        ensures within { IfOk result (λ x. self.now.at + size_of (plain x) ≤ length self.now.tape.now) }
+    {
+        let record = read_front(&self.tape[self.at..])?;
+        if record.time() < self.last {
+            return Err(Flaw::Backward);
+        }
+        Ok(record)
+    }
+
     /// The next record, or none at the tape's end. A refusal leaves the reader where it was.
+    // Kept: an iterator would give that refusal for ever, so callers loop.
     pub fn next(&mut self) -> Result<Option<Placed<'a>>, TapeFault>
         ensures gives { told result ≡ step (drop self.old.at self.old.tape.now) self.old.at self.old.last }
         ensures place { self.new.at ≡ place_after (told result) self.old.at }
@@ -87,7 +82,9 @@ impl<'a> Reader<'a> {
         if place >= self.tape.len() {
             return Ok(None);
         }
-        let record = record_at(self.tape, place, self.last)?;
+        let record = self
+            .front_record()
+            .map_err(|flaw| RecordFault { place, flaw })?;
         self.at = place + record.size();
         self.last = record.time();
         Ok(Some(Placed { place, record }))

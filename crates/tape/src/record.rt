@@ -1,6 +1,6 @@
 ghost use Rattle.std.specs.Prelude.{◌≡◌, ◌^◌, ◌<◌, ◌≤◌, length};
-ghost use Rattle.tape.specs.Format.{plain, kind_of, time_of, symbol_of, size_of, good_symbol, good_fields, is_price};
-ghost use Rattle.tape.specs.Reading.{plainly, judge, decode, front};
+ghost use Rattle.tape.specs.Format.{kind_number, kind_numbered, plain, meant, kind_of, time_of, symbol_of, size_of, within, good_symbol, good_fields, is_price};
+ghost use Rattle.tape.specs.Reading.{plainly, fielded, decode, front};
 
 use super::fault::Flaw;
 
@@ -12,14 +12,21 @@ const MAX_VOLUME: u32 = 1_000_000;
 
 const MAX_SYMBOL: usize = 12;
 
-const HEADER: usize = 15;
+pub(super) const HEADER: usize = 15;
 
 const MIN_BODY: usize = 14;
 
 const MAX_BODY: usize = 25;
 
+/// What a record tells of; its number stands on a tape.
+#[derive(Clone, Copy, Debug, PartialEq, Eq)]
+pub enum RecordKind {
+    Trade = 1,
+    Quote = 2,
+}
+
 /// One line of the market: times in milliseconds, prices in hundredths of a point.
-#[derive(Clone, Copy)]
+#[derive(Clone, Copy, Debug, PartialEq, Eq)]
 pub enum Record<'a> {
     Trade {
         time: u32,
@@ -35,13 +42,37 @@ pub enum Record<'a> {
     },
 }
 
+// A record as a tape holds it: what its two numbers are depends on its kind.
+#[derive(Clone, Copy)]
+pub(super) struct Fields<'a> {
+    pub(super) kind: RecordKind,
+    pub(super) time: u32,
+    pub(super) first: u32,
+    pub(super) second: u32,
+    pub(super) symbol: &'a [u8],
+}
+
+impl TryFrom<u8> for RecordKind {
+    type Error = Flaw;
+
+    fn try_from(number: u8) -> Result<RecordKind, Flaw>
+        ensures { result ≡ kind_numbered number }
+    {
+        match number {
+            1 => Ok(RecordKind::Trade),
+            2 => Ok(RecordKind::Quote),
+            _ => Err(Flaw::Kind),
+        }
+    }
+}
+
 impl<'a> Record<'a> {
-    pub fn kind(&self) -> u8
-        ensures { result ≡ kind_of (plain self.now) }
+    pub fn kind(&self) -> RecordKind
+        ensures { kind_number result ≡ kind_of (plain self.now) }
     {
         match self {
-            Record::Trade { .. } => 1,
-            Record::Quote { .. } => 2,
+            Record::Trade { .. } => RecordKind::Trade,
+            Record::Quote { .. } => RecordKind::Quote,
         }
     }
 
@@ -49,8 +80,7 @@ impl<'a> Record<'a> {
         ensures { result ≡ time_of (plain self.now) }
     {
         match self {
-            Record::Trade { time, .. } => *time,
-            Record::Quote { time, .. } => *time,
+            Record::Trade { time, .. } | Record::Quote { time, .. } => *time,
         }
     }
 
@@ -58,8 +88,7 @@ impl<'a> Record<'a> {
         ensures { result.now ≡ symbol_of (plain self.now) }
     {
         match self {
-            Record::Trade { symbol, .. } => symbol,
-            Record::Quote { symbol, .. } => symbol,
+            Record::Trade { symbol, .. } | Record::Quote { symbol, .. } => symbol,
         }
     }
 
@@ -67,8 +96,7 @@ impl<'a> Record<'a> {
     pub(super) fn symbol_holds(&self) -> bool
         ensures { result ≡ good_symbol (plain self.now) }
     {
-        let len = self.symbol().len();
-        1 <= len && len <= MAX_SYMBOL
+        is_symbol(self.symbol())
     }
 
     // Whether time and numbers are within their limits.
@@ -81,13 +109,49 @@ impl<'a> Record<'a> {
                 price,
                 volume,
                 ..
-            } => { time <= LAST_TIME && is_price(price) && 1 <= volume && volume <= MAX_VOLUME }
+            } => { time <= LAST_TIME && is_price(price) && (1..=MAX_VOLUME).contains(&volume) }
             Record::Quote {
                 time,
                 bid,
                 offer,
                 ..
             } => { time <= LAST_TIME && is_price(bid) && is_price(offer) && bid <= offer }
+        }
+    }
+
+    // Kept: a From of these fields would bar the TryFrom that `judged` is.
+    pub(super) fn fields(&self) -> Fields<'a>
+        ensures { meant result ≡ plain self.now }
+    {
+        match *self {
+            Record::Trade {
+                time,
+                price,
+                volume,
+                symbol,
+            } => {
+                Fields {
+                    kind: RecordKind::Trade,
+                    time,
+                    first: price,
+                    second: volume,
+                    symbol,
+                }
+            }
+            Record::Quote {
+                time,
+                bid,
+                offer,
+                symbol,
+            } => {
+                Fields {
+                    kind: RecordKind::Quote,
+                    time,
+                    first: bid,
+                    second: offer,
+                    symbol,
+                }
+            }
         }
     }
 
@@ -100,34 +164,56 @@ impl<'a> Record<'a> {
     }
 }
 
+impl<'a> Fields<'a> {
+    fn record(&self) -> Record<'a>
+        ensures { plain result ≡ meant self.now }
+    {
+        let Fields {
+            kind,
+            time,
+            first,
+            second,
+            symbol,
+        } = *self;
+        match kind {
+            RecordKind::Trade => Record::Trade {
+                time,
+                price: first,
+                volume: second,
+                symbol,
+            },
+            RecordKind::Quote => Record::Quote {
+                time,
+                bid: first,
+                offer: second,
+                symbol,
+            },
+        }
+    }
+
+    // The record, if its fields hold.
+    fn judged(&self) -> Result<Record<'a>, Flaw>
+        ensures { plainly result ≡ fielded (meant self.now) }
+    {
+        let record = self.record();
+        if !record.fields_hold() {
+            return Err(Flaw::Field);
+        }
+        Ok(record)
+    }
+}
+
+/// Whether some bytes are as many as a symbol has.
+pub fn is_symbol(bytes: &[u8]) -> bool
+    ensures { result ≡ within 1 12 (length bytes.now) }
+{
+    (1..=MAX_SYMBOL).contains(&bytes.len())
+}
+
 fn is_price(price: u32) -> bool
     ensures { result ≡ is_price price }
 {
-    1 <= price && price <= MAX_PRICE
-}
-
-fn judged(kind: u8, time: u32, first: u32, second: u32, symbol: &[u8]) -> Result<Record<'_>, Flaw>
-    ensures { plainly result ≡ judge kind time first second symbol.now }
-{
-    let record = match kind {
-        1 => Record::Trade {
-            time,
-            price: first,
-            volume: second,
-            symbol,
-        },
-        2 => Record::Quote {
-            time,
-            bid: first,
-            offer: second,
-            symbol,
-        },
-        _ => return Err(Flaw::Kind),
-    };
-    if !record.fields_hold() {
-        return Err(Flaw::Field);
-    }
-    Ok(record)
+    (1..=MAX_PRICE).contains(&price)
 }
 
 fn decode_body(body: &[u8]) -> Result<Record<'_>, Flaw>
@@ -151,12 +237,16 @@ fn decode_body(body: &[u8]) -> Result<Record<'_>, Flaw>
         symbol @ ..,
     ] = body
     else {
-        return Err(Flaw::Kind);
+        unreachable!()
     };
-    let time = u32::from_be_bytes([*t0, *t1, *t2, *t3]);
-    let first = u32::from_be_bytes([*a0, *a1, *a2, *a3]);
-    let second = u32::from_be_bytes([*b0, *b1, *b2, *b3]);
-    judged(*kind, time, first, second, symbol)
+    let fields = Fields {
+        kind: RecordKind::try_from(*kind)?,
+        time: u32::from_be_bytes([*t0, *t1, *t2, *t3]),
+        first: u32::from_be_bytes([*a0, *a1, *a2, *a3]),
+        second: u32::from_be_bytes([*b0, *b1, *b2, *b3]),
+        symbol,
+    };
+    fields.judged()
 }
 
 // The record that some bytes begin with.
@@ -167,11 +257,9 @@ pub(super) fn read_front(bytes: &[u8]) -> Result<Record<'_>, Flaw>
         return Err(Flaw::Short);
     };
     let len = usize::from(u16::from_be_bytes([*high, *low]));
-    if len < MIN_BODY || len > MAX_BODY {
+    if !(MIN_BODY..=MAX_BODY).contains(&len) {
         return Err(Flaw::Length);
     }
-    if after.len() < len {
-        return Err(Flaw::Short);
-    }
-    decode_body(&after[0..len])
+    let body = after.get(0..len).ok_or(Flaw::Short)?;
+    decode_body(body)
 }

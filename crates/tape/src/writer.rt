@@ -1,20 +1,21 @@
 ghost use Rattle.std.specs.Prelude.{◌≡◌, ◌+◌, ◌≤◌, length, is_ok, if◌then◌else◌, slice_set};
-ghost use Rattle.tape.specs.Codes.{refusing, record_refusal, write_refusal};
+ghost use Rattle.tape.specs.Codes.{refusing, flaw_at, write_refusal};
 ghost use Rattle.tape.specs.Format.{plain, symbol_of, size_of, head, encode};
 ghost use Rattle.tape.specs.Writing.{splice, fitness, answer, opening, end_after};
 
 use super::fault::{Flaw, RecordFault, WriteFault};
 use super::reader::MAX_TAPE;
-use super::record::Record;
+use super::record::{Fields, HEADER, Record};
 
 /// Where a tape's next record begins, and the time that it may not precede.
-#[derive(Clone, Copy)]
+#[derive(Clone, Copy, Debug, PartialEq, Eq)]
 pub struct End {
     place: usize,
     time: u32,
 }
 
 /// Writes a tape into the caller's buffer.
+// Kept: the buffer is lent and no heap is used, so the tape's end stands beside it.
 #[derive(Drop)]
 pub struct Writer<'a> {
     buffer: &'a mut [u8],
@@ -29,45 +30,24 @@ fn put(buffer: &mut [u8], at: usize, bytes: &[u8])
     buffer[at..at + bytes.len()].copy_from_slice(bytes);
 }
 
-fn head_of(record: &Record) -> [u8; 15]
+fn head_of(record: &Record) -> [u8; HEADER]
     requires { length (symbol_of (plain «record».now)) ≤ 12 }
     ensures { result ≡ head (plain «record».now) }
 {
-    let (time, first, second) = match record {
-        Record::Trade {
-            time,
-            price,
-            volume,
-            ..
-        } => (*time, *price, *volume),
-        Record::Quote {
-            time,
-            bid,
-            offer,
-            ..
-        } => (*time, *bid, *offer),
-    };
-    let len = 13 + record.symbol().len() as u16;
+    let Fields {
+        kind,
+        time,
+        first,
+        second,
+        symbol,
+    } = record.fields();
+    let len = 13 + symbol.len() as u16;
     let [l0, l1] = len.to_be_bytes();
     let [t0, t1, t2, t3] = time.to_be_bytes();
     let [a0, a1, a2, a3] = first.to_be_bytes();
     let [b0, b1, b2, b3] = second.to_be_bytes();
     [
-        l0,
-        l1,
-        record.kind(),
-        t0,
-        t1,
-        t2,
-        t3,
-        a0,
-        a1,
-        a2,
-        a3,
-        b0,
-        b1,
-        b2,
-        b3,
+        l0, l1, kind as u8, t0, t1, t2, t3, a0, a1, a2, a3, b0, b1, b2, b3,
     ]
 }
 
@@ -78,33 +58,7 @@ fn put_record(buffer: &mut [u8], at: usize, item: &Record)
 {
     let head = head_of(item);
     put(buffer, at, &head);
-    put(buffer, at + 15, item.symbol());
-}
-
-// Whether a record may stand at a tape's end.
-fn fits(item: &Record, end: End) -> Result<(), RecordFault>
-    ensures { refusing record_refusal result ≡ fitness end.place end.time (plain item.now) }
-{
-    let place = end.place;
-    if !item.symbol_holds() {
-        return Err(RecordFault {
-            place,
-            flaw: Flaw::Length,
-        });
-    }
-    if !item.fields_hold() {
-        return Err(RecordFault {
-            place,
-            flaw: Flaw::Field,
-        });
-    }
-    if item.time() < end.time {
-        return Err(RecordFault {
-            place,
-            flaw: Flaw::Backward,
-        });
-    }
-    Ok(())
+    put(buffer, at + HEADER, item.symbol());
 }
 
 impl End {
@@ -113,6 +67,22 @@ impl End {
         ensures { result ≡ self.now.place }
     {
         self.place
+    }
+
+    // Whether a record may stand there.
+    fn takes(&self, item: &Record) -> Result<(), Flaw>
+        ensures { refusing (flaw_at self.now.place) result ≡ fitness self.now.place self.now.time (plain item.now) }
+    {
+        if !item.symbol_holds() {
+            return Err(Flaw::Length);
+        }
+        if !item.fields_hold() {
+            return Err(Flaw::Field);
+        }
+        if item.time() < self.time {
+            return Err(Flaw::Backward);
+        }
+        Ok(())
     }
 }
 
@@ -167,15 +137,16 @@ impl<'a> Writer<'a> {
         ensures end { self.new.end ≡ (if is_ok result then end_after self.old.end (plain item.now) else self.old.end) }
     {
         let end = self.end;
-        fits(item, end)?;
+        let place = end.place;
+        end.takes(item).map_err(|flaw| RecordFault { place, flaw })?;
         let size = item.size();
         let room = self.buffer.len().min(MAX_TAPE);
-        if end.place > room || room - end.place < size {
+        if place > room || room - place < size {
             return Err(WriteFault::Full);
         }
-        put_record(self.buffer, end.place, item);
+        put_record(self.buffer, place, item);
         self.end = End {
-            place: end.place + size,
+            place: place + size,
             time: item.time(),
         };
         Ok(())

@@ -101,13 +101,12 @@ kept_all before rs i buffer end records h le =
       reads = ap parse tape ∙ reads_back h.done h.inorder short;
     })
 
--- one more of the items was offered
-pub kept_turn : (before : List ℕ) (items : List Record) (d : Record) (i : ℕ) (buffer : List ℕ) (end : End) (records : ℕ) → Kept before (map plain items) i buffer end records → i < length items → (buffer' : List ℕ) (end' : End) (n : ℕ) → n ≡ cond (accepts (length buffer) end.place end.time (plain (get_or items i d))) 1 0 → buffer' ≡ cond (accepts (length buffer) end.place end.time (plain (get_or items i d))) (splice end.place (encode (plain (get_or items i d))) buffer) buffer → end' ≡ cond (accepts (length buffer) end.place end.time (plain (get_or items i d))) (end_after end (plain (get_or items i d))) end → Kept before (map plain items) (i + 1) buffer' end' (records + n)
-kept_turn before items d i buffer end records h lt buffer' end' n ns bs es =
+-- one more of the items was offered, and taken where t is true
+pub kept_turn : (before : List ℕ) (items : List Record) (d : Record) (i : ℕ) (buffer : List ℕ) (end : End) (records : ℕ) → Kept before (map plain items) i buffer end records → i < length items → (t : Bool) → accepts (length buffer) end.place end.time (plain (get_or items i d)) ≡ t → (buffer' : List ℕ) (end' : End) (n : ℕ) → n ≡ cond t 1 0 → buffer' ≡ cond t (splice end.place (encode (plain (get_or items i d))) buffer) buffer → end' ≡ cond t (end_after end (plain (get_or items i d))) end → Kept before (map plain items) (i + 1) buffer' end' (records + n)
+kept_turn before items d i buffer end records h lt t told buffer' end' n ns bs es =
     let r = plain (get_or items i d) in
     let rs = map plain items in
-    let more = kept_more before rs i buffer end records h r (simp length-map lt) (get_or-map plain items i d r lt) (accepts (length buffer) end.place end.time r) refl in
-    let t = accepts (length buffer) end.place end.time r in
+    let more = kept_more before rs i buffer end records h r (simp length-map lt) (get_or-map plain items i d r lt) t told in
     let b = cond t (splice end.place (encode r) buffer) buffer in
     let e = cond t (end_after end r) end in
     subst (λ x. Kept before rs (i + 1) x end' (records + n)) (sym bs)

@@ -3,4 +3,3 @@ pub mod Counts
 pub mod Filling
 pub mod Keepings
 pub mod Sames
-pub mod Worked

@@ -10,12 +10,13 @@ use tape::reader::{Reader, check};
 use tape::writer::Writer;
 
 /// Why a tape was not copied.
-#[derive(Clone, Copy)]
+#[derive(Clone, Copy, Debug, PartialEq, Eq)]
 pub enum CopyFault {
     Tape(TapeFault),
     Write(WriteFault),
 }
 
+// Kept: a derived From has no contract, and contracts here name the variant.
 impl From<TapeFault> for CopyFault {
     ghost from_gives = { λ e r. r ≡ Tape e };
 
@@ -24,6 +25,7 @@ impl From<TapeFault> for CopyFault {
     }
 }
 
+// Kept: a derived From has no contract, and contracts here name the variant.
 impl From<WriteFault> for CopyFault {
     ghost from_gives = { λ e r. r ≡ Write e };
 
@@ -41,7 +43,7 @@ pub fn copy_tape(tape: &[u8], buffer: &mut [u8]) -> Result<usize, CopyFault>
 {
     check(tape)?;
     if buffer.len() < tape.len() {
-        return Err(CopyFault::Write(WriteFault::Full));
+        return Err(WriteFault::Full.into());
     }
     let mut reader = Reader::start(tape)?;
     let mut writer = Writer::start(buffer);

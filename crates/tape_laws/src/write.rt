@@ -1,30 +1,16 @@
-ghost use Rattle.std.specs.Prelude.{◌≡◌, map, length, if◌then◌else◌};
-ghost use Rattle.tape.specs.Format.{plain, encode};
-ghost use Rattle.tape.specs.Writing.{splice, end_after};
-ghost use Rattle.tape_laws.specs.Keeping.{accepts, Keeps};
+ghost use Rattle.std.specs.Prelude.{map};
+ghost use Rattle.tape.specs.Format.{plain};
+ghost use Rattle.tape_laws.specs.Keeping.{Keeps};
 
 use tape::fault::WriteFault;
 use tape::record::Record;
 use tape::writer::Writer;
 
 /// A tape in a buffer: how many bytes and how many records it has.
-#[derive(Clone, Copy)]
+#[derive(Clone, Copy, Debug, PartialEq, Eq)]
 pub struct Written {
     pub bytes: usize,
     pub records: usize,
-}
-
-// Offers one record to a writer; answers how many it has taken.
-fn offer(writer: &mut Writer, item: &Record) -> usize
-    ensures lender { writer.new.buffer.ghost_name ≡ writer.old.buffer.ghost_name }
-    ensures gives { result ≡ (if accepts (length writer.old.buffer.now) writer.old.end.place writer.old.end.time (plain item.now) then 1 else 0) }
-    ensures bytes { writer.new.buffer.now ≡ (if accepts (length writer.old.buffer.now) writer.old.end.place writer.old.end.time (plain item.now) then splice writer.old.end.place (encode (plain item.now)) writer.old.buffer.now else writer.old.buffer.now) }
-    ensures end { writer.new.end ≡ (if accepts (length writer.old.buffer.now) writer.old.end.place writer.old.end.time (plain item.now) then end_after writer.old.end (plain item.now) else writer.old.end) }
-{
-    match writer.append(item) {
-        Ok(()) => 1,
-        Err(_) => 0,
-    }
 }
 
 /// Starts a tape and offers it each record in turn; those that it refuses are left out.
@@ -34,8 +20,9 @@ pub fn write_tape(buffer: &mut [u8], items: &[Record]) -> Result<Written, WriteF
     let mut writer = Writer::start(buffer);
     writer.started()?;
     let mut records: usize = 0;
+    // Kept: as the count of a filter, the writes would hide in its test.
     for item in items {
-        records += offer(&mut writer, item);
+        records += usize::from(writer.append(item).is_ok());
     }
     let bytes = writer.end().place();
     Ok(Written { bytes, records })

@@ -25,41 +25,35 @@ mod tests {
         }
     }
 
-    // How many records a tape has, or a refusal's code with its sign turned.
-    fn verdict(tape: &[u8]) -> i64 {
-        match check_tape(tape) {
-            Ok(records) => i64::try_from(records).unwrap_or(i64::MAX),
-            Err(fault) => -i64::from(fault.code()),
-        }
+    // How many records a tape has, or a refusal's code.
+    fn verdict(tape: &[u8]) -> Result<usize, u8> {
+        check_tape(tape).map_err(|fault| fault.code())
     }
 
-    // What a record's append to a new tape answers: 0, or the refusal's code.
-    fn write_one(buffer: &mut [u8]) -> u8 {
+    // What a record's append to a new tape answers, with a refusal's code.
+    fn write_one(buffer: &mut [u8]) -> Result<(), u8> {
         let mut writer = Writer::start(buffer);
-        match writer.append(&worked()) {
-            Ok(()) => 0,
-            Err(fault) => fault.code(),
-        }
+        writer.append(&worked()).map_err(|fault| fault.code())
     }
 
     #[test]
     fn a_full_buffer_holds_the_worked_record(rt: HostRuntime) {
         let mut buffer = [UNTOUCHED; 18];
-        assert_eq!(rt; write_one(&mut buffer), 0);
+        assert_eq!(rt; write_one(&mut buffer), Ok(()));
         assert!(rt; buffer == WORKED);
-        assert_eq!(rt; verdict(&buffer), 1);
+        assert_eq!(rt; verdict(&buffer), Ok(1));
     }
 
     #[test]
     fn a_buffer_one_byte_short_keeps_its_bytes(rt: HostRuntime) {
         let mut buffer = [UNTOUCHED; 17];
-        assert_eq!(rt; write_one(&mut buffer), 12);
+        assert_eq!(rt; write_one(&mut buffer), Err(12));
         assert_eq!(rt; buffer[0], 1);
         assert!(rt; &buffer[1..17] == &[UNTOUCHED; 16][0..16]);
     }
 
-    // How many records of 25 bytes a buffer takes, and the code that the next one gets.
-    fn fill(buffer: &mut [u8], most: u32) -> (u32, u8) {
+    // How many records of 25 bytes, `most` at most, a buffer takes, and what the last one offered gets.
+    fn fill(buffer: &mut [u8], most: u32) -> (u32, Result<(), u8>) {
         let item = Record::Quote {
             time: 0,
             bid: 1,
@@ -69,20 +63,20 @@ mod tests {
         let mut writer = Writer::start(buffer);
         for taken in 0..most {
             if let Err(fault) = writer.append(&item) {
-                return (taken, fault.code());
+                return (taken, Err(fault.code()));
             }
         }
-        (most, 0)
+        (most, Ok(()))
     }
 
     // 41,943 records of 25 bytes and the version byte are 1,048,576 bytes.
     #[test]
     fn the_longest_tape_is_taken_and_one_byte_more_is_not(rt: HostRuntime) -> Result<(), Fail> {
         let mut buffer = vec![in rt.alloc(); 0; 1_048_577]?;
-        assert_eq!(rt; fill(&mut buffer, 50_000), (41_943, 12));
+        assert_eq!(rt; fill(&mut buffer, 50_000), (41_943, Err(12)));
         assert!(rt; buffer.len() == 1_048_577);
-        assert_eq!(rt; verdict(&buffer[0..1_048_576]), 41_943);
-        assert_eq!(rt; verdict(&buffer), -7);
+        assert_eq!(rt; verdict(&buffer[0..1_048_576]), Ok(41_943));
+        assert_eq!(rt; verdict(&buffer), Err(7));
         Ok(())
     }
 }

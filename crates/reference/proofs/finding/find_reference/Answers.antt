@@ -1,44 +1,19 @@
 use Rattle.std.proofs.Common.{◌+◌, ◌-◌, ◌*◌, Err, sym, ap, ◌∙◌, subst, arith}
 use Rattle.std.proofs.lemmas.Result.{err_from_is_err_and}
-use Rattle.tape.specs.Codes.{refusing}
 use Rattle.tape.proofs.Means.{bytes_all}
-use Rattle.reference.specs.Codes.{reference_refusal}
-use Rattle.reference.specs.Finding.{searched}
 use Rattle.reference.specs.Meaning.{Answers}
 use Rattle.reference.specs.Windows.{Holds}
-use Rattle.reference.proofs.Cutting.{part_short}
 use Rattle.reference.proofs.Meanings.{found_means, nothing_means, fault_means}
-use Rattle.reference.proofs.Searching.{part_sound, window_next, window_found, window_end, due_is, few_windows}
+use Rattle.reference.proofs.Searching.{window_next, window_found, window_end, due_is}
 use Rattle.reference.proofs.finding.find_reference.Goals as goal
 
-pub returns-in_err-edges : goal.returns-in_err-edges
-returns-in_err-edges c =
+pub returns-in_err-edges-clause-means : goal.returns-in_err-edges-clause-means
+returns-in_err-edges-clause-means c =
     let q = c.args.request.now in
     let b = c.args.tape.now in
     let p = err_from_is_err_and c.from_residual.result c.from_residual.ensures.1 in
-    let is = p.1 ∙ ap Err p.2 in
     let fits = sym c.is_fit.ensures ∙ c.if-not-is_fit.false in
-    let fault = c.in_err-edges.ensures in
-    record {
-      gives = ap (refusing reference_refusal) is ∙ ap (λ o. searched q.symbol.now q.close o 1 q.windows) (sym fault) ∙ due_is q b fits;
-      means = subst (Answers q b) (sym is) (fits, fault_means b _ (bytes_all b (λ i. (c.type_inv.tape i).fits)) fault);
-    }
-
-pub part-part-requires : goal.part-part-requires
-part-part-requires c = record {
-  edged = c.in_ok-edges.ensures.1;
-  windows_bound = omega (arith, few_windows c.args.request.now (sym c.is_fit.ensures ∙ c.if-not-is_fit.false));
-}
-
-pub tally-requires : goal.tally-requires
-tally-requires c = part_short c.args.tape.now _ _ _ c.part-part.ensures
-
--- the part was read with the whole tape
-pub returns-in_err-tallies : goal.returns-in_err-tallies
-returns-in_err-tallies c = absurd (part_sound c.args.tape.now _ _ _ _ _ c.part-part.ensures c.in_err-tallies.ensures.gives)
-
-pub first_mean-requires : goal.first_mean-requires
-first_mean-requires c = c.in_ok-tallies.ensures.fits
+    subst (Answers q b) (sym (p.1 ∙ ap Err p.2)) (fits, fault_means b _ (bytes_all b (λ i. (c.type_inv.tape i).fits)) c.in_err-edges.ensures)
 
 pub returns-in-Some : goal.returns-in-Some
 returns-in-Some c =

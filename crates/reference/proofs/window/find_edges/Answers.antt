@@ -1,4 +1,4 @@
-use Rattle.std.proofs.Common.{length, replicate, Err, sym, refl, ap, ◌∙◌, subst, arith}
+use Rattle.std.proofs.Common.{length, replicate, Err, sym, refl, ap, ◌∙◌, subst}
 use Rattle.std.proofs.lemmas.List.{get_or-replicate, length-replicate}
 use Rattle.std.proofs.lemmas.Result.{err_from_is_err_and}
 use Rattle.tape.specs.Format.{plain}
@@ -23,9 +23,6 @@ comes : (c : goal.After-note) → Came c.args.tape.now c.loop-placed.reader.at c
 comes c =
     let got = c.in_ok-placed.ensures in
     came c.loop-placed.reader.tape.now c.args.tape.now c.loop-placed.reader.at c.loop-placed.reader.last _ _ _ _ c.loop-placed.invariant.1.inside c.loop-placed.invariant.0 c.in-Some.is got.gives got.place got.time
-
-pub loop-placed-smaller : goal.loop-placed-smaller
-loop-placed-smaller c = let k = comes c in omega (arith, k.moved, k.fits)
 
 pub loop-placed-preserved : goal.loop-placed-preserved
 loop-placed-preserved c =

@@ -1,4 +1,4 @@
-use Rattle.std.proofs.Common.{◌≡◌, ℕ, ◌+◌, ◌≤◌, length, drop, Ok, Err, sym, refl, ap, ◌∙◌, subst, arith}
+use Rattle.std.proofs.Common.{◌≡◌, ℕ, ◌+◌, ◌≤◌, length, drop, Ok, Err, sym, refl, ap, ◌∙◌, subst, arith, rules}
 use Rattle.std.proofs.lemmas.Result.{err_from_is_err_and}
 use Rattle.tape.specs.Codes.{refusing, tape_refusal}
 use Rattle.tape.specs.Format.{Plain, plain, size_of}
@@ -12,13 +12,10 @@ count_put : (n : ℕ) (r : Plain) (o : Outcome) → count n (put r o) ≡ count 
 count_put n r (sound rs) = ap Ok (omega arith)
 count_put n r (faulty e) = refl
 
-pub returns-in_err-reader : goal.returns-in_err-reader
-returns-in_err-reader c =
+pub returns-in_err-reader-clause-means : goal.returns-in_err-reader-clause-means
+returns-in_err-reader-clause-means c =
     let xs = c.args.tape.now in
-    let p = err_from_is_err_and c.from_residual.result c.from_residual.ensures.1 in
-    let is = p.1 ∙ ap Err p.2 in
-    let counts = ap (refusing tape_refusal) is ∙ ap (count 0) (sym c.in_err-reader.ensures) in
-    record { counts = counts; means = verdict xs _ (bytes_all xs (λ i. (c.type_inv.tape i).fits)) counts }
+    verdict xs _ (bytes_all xs (λ i. (c.type_inv.tape i).fits)) (search rules)
 
 pub loop-records-init : goal.loop-records-init
 loop-records-init c =
@@ -37,9 +34,6 @@ comes : (c : goal.In-Some) → Came c.args.tape.now c.loop-records.reader.at c.l
 comes c =
     let got = c.in_ok-next.ensures in
     came _ _ _ _ _ _ _ _ c.loop-records.invariant.2 c.loop-records.invariant.0 c.in-Some.is got.gives got.place got.time
-
-pub loop-records-smaller : goal.loop-records-smaller
-loop-records-smaller c = let k = comes c in omega (arith, k.moved, k.fits)
 
 pub returns-in_err-next : goal.returns-in_err-next
 returns-in_err-next c =

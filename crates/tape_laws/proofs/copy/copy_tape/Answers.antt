@@ -1,15 +1,13 @@
-use Rattle.std.proofs.Common.{◌≡◌, ℕ, ◌<◌, ◌≤◌, leb, List, length, get_or, drop, set, Ok, Err, Result, sym, refl, ap, ◌∙◌, arith, rules, le-leb}
+use Rattle.std.proofs.Common.{◌≡◌, ℕ, ◌<◌, ◌≤◌, List, length, get_or, drop, set, Ok, Err, Result, sym, refl, ap, ◌∙◌, arith, rules}
 use Rattle.std.proofs.lemmas.List.{length-set}
-use Rattle.std.proofs.lemmas.Bool.{cond-true}
 use Rattle.tape.specs.declared.fault.WriteFault.{WriteFault}
-use Rattle.tape.specs.Codes.{Refusal, refused, write_refusal}
+use Rattle.tape.specs.Codes.{Refusal, write_refusal}
 use Rattle.tape.specs.Format.{Plain, plain, tape_of}
 use Rattle.tape.specs.Reading.{Outcome, sound, faulty, step, told, parse}
 use Rattle.tape.specs.Sound.{Sound}
 use Rattle.tape.proofs.Means.{bytes_all, sound_means}
 use Rattle.tape.proofs.Runs.{first_some}
 use Rattle.tape.proofs.Steps.{Came, came}
-use Rattle.tape_laws.specs.Copying.{copied}
 use Rattle.tape_laws.specs.Keeping.{overlaid}
 use Rattle.tape_laws.proofs.Copies.{copied_none, copied_answer, copied_more, copied_all, copied_failed, count_sound, writes_back}
 use Rattle.tape_laws.proofs.Filling.{started, first_set}
@@ -46,9 +44,6 @@ comes c =
     let got = c.in_ok-placed.ensures in
     came _ _ _ _ _ _ _ _ c.loop-placed.invariant.2 c.loop-placed.invariant.1 c.in-Some.is got.gives got.place got.time
 
-pub loop-placed-smaller : goal.loop-placed-smaller
-loop-placed-smaller c = let k = comes c in omega (arith, k.moved, k.fits)
-
 pub loop-placed-preserved : goal.loop-placed-preserved
 loop-placed-preserved c =
     let k = comes c in
@@ -77,21 +72,16 @@ returns-in_err-append c =
 ended : (xs b start after : List ℕ) (rs : List Plain) → start ≡ set b 0 1 → Sound xs rs → after ≡ overlaid (tape_of rs) start → after ≡ overlaid xs b
 ended xs b start after rs is s h = h ∙ ap (overlaid (tape_of rs)) is ∙ started rs b ∙ ap (λ l. overlaid l b) (sym s.bytes)
 
-pub returns : goal.returns
-returns c =
+pub returns-clause-bytes : goal.returns-clause-bytes
+returns-clause-bytes c =
     let xs = c.args.tape.now in
-    let b = c.args.buffer.now in
     let at = c.loop-placed.reader.at in
     let last = c.loop-placed.reader.last in
     let h = c.loop-placed.invariant.3 in
     let s = ap (λ o. told (Ok o)) (sym c.in_default.is) ∙ c.in_ok-placed.ensures.gives ∙ ap (λ l. step (drop at l) at last) c.loop-placed.invariant.1 in
-    let all = copied_all xs _ _ _ at last h (sym s) in
-    let bytes_of = bytes_all xs (λ i. (c.type_inv.tape i).fits) in
-    let whole = sound_means xs h.done bytes_of all in
-    let same = ended xs b c.start-writer.result.buffer.now c.loop-placed.writer.buffer.now h.done c.start-writer.ensures.bytes whole h.filled.bytes in
-    let long : c.place.result ≡ length xs = c.place.ensures ∙ ap (λ e. e.place) c.end.ensures ∙ h.filled.end ∙ ap length (sym whole.bytes) in
-    record {
-      gives = ap Ok long ∙ sym (ap (copied (length xs) (length b)) all ∙ cond-true (leb (length xs) (length b)) (Ok (length xs)) (Err (refused 12)) (le-leb _ _ (omega arith)));
-      bytes = search rules;
-      writes = writes_back xs (length b) bytes_of;
-    }
+    let whole = sound_means xs h.done (bytes_all xs (λ i. (c.type_inv.tape i).fits)) (copied_all xs _ _ _ at last h (sym s)) in
+    let same = ended xs c.args.buffer.now c.start-writer.result.buffer.now c.loop-placed.writer.buffer.now h.done c.start-writer.ensures.bytes whole h.filled.bytes in
+    search rules
+
+pub returns-clause-writes : goal.returns-clause-writes
+returns-clause-writes c = writes_back c.args.tape.now (length c.args.buffer.now) (bytes_all c.args.tape.now (λ i. (c.type_inv.tape i).fits))
