@@ -35,18 +35,16 @@ mod tests {
     use super::{ClosedMarket, LimitRule};
     use day::Day;
 
-    // 0 where a day opens, or the refusal's code.
-    fn opening(price: u32) -> u8 {
-        match Day::open(ClosedMarket, price) {
-            Ok(_) => 0,
-            Err(fault) => fault.code(),
-        }
+    fn opening(price: u32) -> Result<(), u8> {
+        Day::open(ClosedMarket, price)
+            .map(|_| ())
+            .map_err(|fault| fault.code())
     }
 
     #[test]
     fn a_rule_that_takes_no_price_opens_no_day(rt: HostRuntime) {
         for price in [0, 1, 100_000, 3_813_000, 20_000_000, u32::MAX] {
-            assert_eq!(rt; opening(price), 10);
+            assert_eq!(rt; opening(price), Err(10));
         }
     }
 }

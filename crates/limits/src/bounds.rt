@@ -6,7 +6,7 @@ use crate::multiples::{multiple_above, multiple_below};
 use crate::rule::LimitRule;
 
 /// The limits around a price. The edges are the multiples of a tick next to them, on the price's side.
-#[derive(Clone, Copy)]
+#[derive(Clone, Copy, Debug, PartialEq, Eq)]
 pub struct Bounds {
     pub lower: u32,
     pub upper: u32,
@@ -16,6 +16,7 @@ pub struct Bounds {
 
 impl Bounds {
     /// The bounds at each side's level. A level without an offset lies at the price itself.
+    // Kept: the two levels come from two bands; a struct of both would be made to be taken apart.
     pub fn around<R: LimitRule>(
         rule: &R,
         tick: u32,
@@ -43,7 +44,7 @@ impl Bounds {
     pub fn inside(&self, price: u32) -> bool
         ensures { result ≡ within self.now price }
     {
-        self.lower <= price && price <= self.upper
+        (self.lower..=self.upper).contains(&price)
     }
 }
 

@@ -7,11 +7,13 @@ use crate::multiples::multiple_below;
 
 /// A rule that sets limits around a reference price, level by level. Prices are hundredths of a point.
 pub trait LimitRule: Copy {
-    /// The rounding unit. Generic code knows nothing of a constant's value, so it asks `rounding_unit`.
+    /// The rounding unit of a type whose rules have one. Generic code asks each rule by `rounding_unit`.
     const UNIT: u32;
 
     ghost means: { Self → Meaning };
 
+    // Kept: a type may have rules of several units, and of several levels; tied to constants, the trait would ask more of
+    // who writes a rule.
     fn rounding_unit(&self) -> u32
         ensures { result ≡ (means self.now).unit };
 

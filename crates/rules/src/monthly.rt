@@ -1,4 +1,5 @@
 ghost use Rattle.std.specs.Prelude.{◌≡◌, true, false, MatchResult};
+ghost use Rattle.limits.specs.Meaning.{points};
 ghost use Rattle.rules.specs.Faults.{number};
 ghost use Rattle.rules.specs.Figures.{settlement_sound};
 ghost use Rattle.rules.specs.Named.{monthly, bracket};
@@ -9,12 +10,13 @@ use crate::offsets::{HIGHEST, POINT, price_suits};
 use limits::LimitRule;
 
 /// One offset, by the bracket of the lead month's settlement.
-#[derive(Clone, Copy)]
+#[derive(Clone, Copy, Debug, PartialEq, Eq)]
 pub struct Monthly {
     settlement: u32,
 }
 
 impl Monthly {
+    // Kept: the name says what the number is, and `try_from` would not.
     /// The rule of a settlement that is a multiple of 5 points up to 200,000.
     pub fn from_settlement(settlement: u32) -> Result<Monthly, RuleFault>
         ensures { MatchResult result (λ m. (settlement_sound settlement ≡ true) × (m.settlement ≡ settlement)) (λ e. (settlement_sound settlement ≡ false) × (e ≡ RuleFault.Settlement) × (number e ≡ 11)) }
@@ -43,11 +45,7 @@ impl LimitRule for Monthly {
 
     fn offset(&self, level: u8, price: u32) -> Option<u32> {
         let offset = bracket_of(self.settlement);
-        if level == LEVELS && price_suits(Self::UNIT, offset, price) {
-            Some(offset)
-        } else {
-            None
-        }
+        (level == LEVELS && price_suits(Self::UNIT, offset, price)).then_some(offset)
     }
 }
 

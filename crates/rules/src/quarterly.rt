@@ -3,15 +3,15 @@ ghost use Rattle.limits.specs.Meaning.{offset_at, points};
 ghost use Rattle.rules.specs.Faults.{number};
 ghost use Rattle.rules.specs.Figures.{close_sound, closes_sound};
 ghost use Rattle.rules.specs.Exact.{PercentOf};
-ghost use Rattle.rules.specs.Named.{quarterly, percent_at, share};
+ghost use Rattle.rules.specs.Named.{quarterly, percent_at};
 ghost use Rattle.std.proofs.Common.{rules, arith};
 
 use crate::fault::RuleFault;
-use crate::offsets::{HIGHEST, LOWEST, POINT, STEP, percentage, price_suits};
+use crate::offsets::{HIGHEST, LOWEST, POINT, Share};
 use limits::LimitRule;
 
 /// Offsets are percentages of the average of twenty closes.
-#[derive(Clone, Copy)]
+#[derive(Clone, Copy, Debug, PartialEq, Eq)]
 pub struct Quarterly {
     /// The sum of the closes, from which the average is taken unrounded.
     total: u32,
@@ -20,6 +20,7 @@ pub struct Quarterly {
 }
 
 impl Quarterly {
+    // Kept: the name says what the numbers are, and `try_from` would not.
     /// The rule of twenty closes from 1,000 to 200,000 points.
     pub fn from_closes(closes: &[u32]) -> Result<Quarterly, RuleFault>
         ensures { MatchResult result (λ q. (closes_sound closes.now ≡ true) × (q.total ≡ sum closes.now)) (λ e. (closes_sound closes.now ≡ false) × (e ≡ RuleFault.Closes) × (number e ≡ 11)) }
@@ -57,13 +58,11 @@ impl LimitRule for Quarterly {
         ensures answer { result ≡ offset_at (quarterly self.now.total) level price }
         ensures exact { IfSome result (λ x. PercentOf (percent_at level) self.now.total 20 x) }
     {
-        if level < 1
-            || level > LEVELS
-            || !price_suits(Self::UNIT, offset_at(LEVELS, self.total), price)
-        {
-            return None;
-        }
-        Some(offset_at(level, self.total))
+        let share = Share {
+            amount: self.total,
+            parts: CLOSES as u32,
+        };
+        share.offset(Self::UNIT, LEVELS, level, price)
     }
 }
 
@@ -74,11 +73,5 @@ const CLOSES: usize = 20;
 fn close_sound(close: u32) -> bool
     ensures { result ≡ close_sound close }
 {
-    LOWEST <= close && close <= HIGHEST
-}
-
-fn offset_at(level: u8, total: u32) -> u32
-    ensures { result ≡ share level total 20 }
-{
-    (percentage(level, total) / (100 * CLOSES as u64 * STEP) * STEP) as u32
+    (LOWEST..=HIGHEST).contains(&close)
 }

@@ -12,8 +12,5 @@ pub fn worked_offsets() -> [u32; 3]
     ensures worked { Worked }
 {
     let price = 38_130 * POINT;
-    let first = Daily.offset(1, price).unwrap_or(0);
-    let second = Daily.offset(2, price).unwrap_or(0);
-    let third = Daily.offset(3, price).unwrap_or(0);
-    [first, second, third]
+    [1, 2, 3].map(|level| Daily.offset(level, price).unwrap_or(0))
 }

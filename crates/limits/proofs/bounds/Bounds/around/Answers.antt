@@ -1,36 +1,22 @@
-use Rattle.std.proofs.Common.{◌≡◌, ◌+◌, ◌-◌, ◌^◌, ◌<◌, sym, subst, arith, rules}
-use Rattle.limits.specs.Around.{bounds}
-use Rattle.limits.specs.Laws.{Edges}
-use Rattle.limits.specs.declared.bounds.Bounds.{Bounds}
-use Rattle.limits.proofs.Offsets.{distance_under, distance_fits, edges, widens}
+use Rattle.std.proofs.Common.{◌≡◌, ◌+◌, ◌-◌, arith, rules}
+use Rattle.limits.specs.Around.{not_above, not_below}
+use Rattle.limits.proofs.Nearest.{largest, smallest}
+use Rattle.limits.proofs.Offsets.{widens}
 use Rattle.limits.proofs.bounds.Bounds.around.Goals as goal
 
-pub overflow_sub-lower : goal.overflow_sub-lower
-overflow_sub-lower g c =
-    let law = g.met.R.LimitRule.lawful c.args.rule.now in
-    omega (arith, distance_under _ law c.args.price c.args.lower_level)
-
-pub overflow_add-upper : goal.overflow_add-upper
-overflow_add-upper g c =
-    let law = g.met.R.LimitRule.lawful c.args.rule.now in
-    omega (arith, distance_fits _ law c.args.price (omega arith) c.args.upper_level)
-
-pub returns : goal.returns
-returns g c =
-    let m = g.R.LimitRule.means c.args.rule.now in
-    let law = g.met.R.LimitRule.lawful c.args.rule.now in
+pub returns-clause-edges : goal.returns-clause-edges
+returns-clause-edges g c taken some =
     let tick = c.args.tick in
-    let price = c.args.price in
-    let fits : tick < 2 ^ 32 = omega arith in
-    let made : Bounds = record {
-      lower = price - c.distance_to.result;
-      upper = price + c.distance_to-2.result;
-      lower_edge = c.multiple_above-lower_edge.result;
-      upper_edge = c.multiple_below-upper_edge.result;
-    } in
-    let is : made ≡ bounds m tick price c.args.lower_level c.args.upper_level = search rules in
+    let low = c.args.price - c.distance_to.result in
+    let high = c.args.price + c.distance_to-2.result in
+    let lower : c.multiple_above-lower_edge.result ≡ not_below tick low = search rules in
+    let upper : c.multiple_below-upper_edge.result ≡ not_above tick high = search rules in
+    let at = (g.met.R.LimitRule.lawful c.args.rule.now).at c.args.price taken in
+    let highest = at.high in
     record {
-      answer = is;
-      edges = λ taken some. subst (λ (x : Bounds). Edges tick x) (sym is) (edges m law price tick _ _ taken some fits);
-      widens = widens m law price tick;
+      upper = rw upper (largest tick some high);
+      lower = rw lower (smallest tick some low (omega arith) (omega arith));
     }
+
+pub returns-clause-widens : goal.returns-clause-widens
+returns-clause-widens g c taken = widens (g.R.LimitRule.means c.args.rule.now) (g.met.R.LimitRule.lawful c.args.rule.now) c.args.price taken c.args.tick
