@@ -2,13 +2,13 @@ ghost use Rattle.std.specs.Prelude.{◌≡◌};
 ghost use Rattle.std.specs.Option.{ok_or};
 ghost use Rattle.roster.specs.Codes.{numbered};
 ghost use Rattle.roster.specs.Checks.{form_answer};
-ghost use Rattle.listings.specs.Months.{month_of, read_code, sound_code, same_code};
+ghost use Rattle.listings.specs.Months.{month_of, read_code, sound_code};
 
 use roster::fault::RosterFault;
 
 /// A letter for the month and the last two digits of the year. Any letter and any number can be handed in, so what
-/// takes a code checks its form; `read` gives well-formed ones only.
-#[derive(Clone, Copy)]
+/// takes a code checks its form; `try_from` gives well-formed ones only.
+#[derive(Clone, Copy, Debug, PartialEq, Eq)]
 pub struct MonthCode {
     pub letter: char,
     pub year: u8,
@@ -18,6 +18,7 @@ pub struct MonthCode {
 pub fn month_of(letter: char) -> Result<u8, RosterFault>
     ensures { numbered result ≡ ok_or (month_of letter) 21 }
 {
+    // Kept: the project prescribes letters as cases, and an enum of the months would be twelve cases more.
     match letter {
         'F' => Ok(1),
         'G' => Ok(2),
@@ -35,11 +36,13 @@ pub fn month_of(letter: char) -> Result<u8, RosterFault>
     }
 }
 
-impl MonthCode {
+impl<'a> TryFrom<&'a [u8]> for MonthCode {
+    type Error = RosterFault;
+
+    ghost try_from_gives = { λ word r. numbered r ≡ read_code word.now };
+
     /// Reads a code from a word's bytes: a month's letter and two digits, and nothing else.
-    pub fn read(word: &[u8]) -> Result<MonthCode, RosterFault>
-        ensures { numbered result ≡ read_code word.now }
-    {
+    fn try_from(word: &'a [u8]) -> Result<MonthCode, RosterFault> {
         let [letter, tens @ b'0'..=b'9', ones @ b'0'..=b'9'] = word else {
             return Err(RosterFault::Malformed);
         };
@@ -48,20 +51,16 @@ impl MonthCode {
         let year = 10 * (*tens - b'0') + (*ones - b'0');
         Ok(MonthCode { letter, year })
     }
+}
 
+impl MonthCode {
     pub(super) fn form(&self) -> Result<(), RosterFault>
         ensures { numbered result ≡ form_answer (sound_code self.now) }
     {
         month_of(self.letter)?;
-        if self.year > 99 {
-            return Err(RosterFault::Malformed);
+        match self.year {
+            0..=99 => Ok(()),
+            _ => Err(RosterFault::Malformed),
         }
-        Ok(())
-    }
-
-    pub(super) fn is_same(&self, other: &MonthCode) -> bool
-        ensures { result ≡ same_code self.now other.now }
-    {
-        self.letter == other.letter && self.year == other.year
     }
 }

@@ -1,3 +1,4 @@
+ghost use Rattle.std.specs.Prelude.{◌≡◌, false};
 ghost use Rattle.listings.specs.Kinds.{same_month, sound_month};
 ghost use Rattle.std.proofs.Common.{rules};
 
@@ -6,17 +7,29 @@ use roster::fault::RosterFault;
 use roster::listing::Listing;
 
 /// A futures month, and whether today is its last trading day.
-#[derive(Clone, Copy)]
+#[derive(Clone, Copy, Debug, PartialEq, Eq)]
 pub struct FuturesMonth {
     pub code: MonthCode,
     pub last_day: bool,
+}
+
+/// The month of a code, to be looked for by it: the flag is no part of what is sought.
+impl From<MonthCode> for FuturesMonth {
+    ghost from_gives = { λ c r. r ≡ record { code = c; last_day = false } };
+
+    fn from(code: MonthCode) -> FuturesMonth {
+        FuturesMonth {
+            code,
+            last_day: false,
+        }
+    }
 }
 
 impl Listing for FuturesMonth {
     /// 5 points.
     const TICK: u32 = 500;
 
-    ghost step = { 500 };
+    ghost TICK = { 500 };
 
     ghost same = { same_month };
 
@@ -30,12 +43,8 @@ impl Listing for FuturesMonth {
 
     ghost transitive = { Prim.search rules };
 
-    fn price_step() -> u32 {
-        Self::TICK
-    }
-
     fn is_same(&self, other: &FuturesMonth) -> bool {
-        self.code.is_same(&other.code)
+        self.code == other.code
     }
 
     fn form(&self) -> Result<(), RosterFault> {

@@ -1,5 +1,5 @@
-ghost use Rattle.std.specs.Prelude.{◌≡◌};
-ghost use Rattle.listings.specs.Kinds.{same_right, same_series, sound_series};
+ghost use Rattle.std.specs.Prelude.{◌≡◌, false};
+ghost use Rattle.listings.specs.Kinds.{same_series, sound_series};
 ghost use Rattle.listings.specs.Months.{underlying_code};
 ghost use Rattle.listings.specs.Sames.{series_trans};
 ghost use Rattle.std.proofs.Common.{rules};
@@ -9,37 +9,32 @@ use roster::fault::RosterFault;
 use roster::listing::Listing;
 
 /// What an option gives a right to: to buy (a call) or to sell (a put).
-#[derive(Clone, Copy)]
+#[derive(Clone, Copy, Debug, PartialEq, Eq)]
 pub enum Right {
     Call,
     Put,
 }
 
-/// An option series, its strike in whole points, and whether today is its last trading day.
-#[derive(Clone, Copy)]
-pub struct OptionSeries {
+/// What an option is known by: the code of its month, the strike in whole points, and what it gives a right to.
+#[derive(Clone, Copy, Debug, PartialEq, Eq)]
+pub struct OptionContract {
     pub code: MonthCode,
     pub strike: u32,
     pub right: Right,
+}
+
+/// An option series, and whether today is its last trading day.
+// Kept: a struct of any key and the flag, for months too, would not say by what a listing is known.
+#[derive(Clone, Copy, Debug, PartialEq, Eq)]
+pub struct OptionSeries {
+    pub contract: OptionContract,
     pub last_day: bool,
 }
 
 // In whole points.
 const MOST_STRIKE: u32 = 400_000;
 
-impl Right {
-    fn is_same(self, other: Right) -> bool
-        ensures { result ≡ same_right self other }
-    {
-        match (self, other) {
-            (Right::Call, Right::Call) => true,
-            (Right::Put, Right::Put) => true,
-            _ => false,
-        }
-    }
-}
-
-impl OptionSeries {
+impl OptionContract {
     /// The futures month that the option is on: the first of the March cycle from its own month on, in the same
     /// year. A letter that is no month's stays as it is.
     pub fn underlying(&self) -> MonthCode
@@ -54,7 +49,19 @@ impl OptionSeries {
         };
         MonthCode {
             letter,
-            year: self.code.year,
+            ..self.code
+        }
+    }
+}
+
+/// The series of a contract, to be looked for by it: the flag is no part of what is sought.
+impl From<OptionContract> for OptionSeries {
+    ghost from_gives = { λ c r. r ≡ record { contract = c; last_day = false } };
+
+    fn from(contract: OptionContract) -> OptionSeries {
+        OptionSeries {
+            contract,
+            last_day: false,
         }
     }
 }
@@ -63,7 +70,7 @@ impl Listing for OptionSeries {
     /// 1 point.
     const TICK: u32 = 100;
 
-    ghost step = { 100 };
+    ghost TICK = { 100 };
 
     ghost same = { same_series };
 
@@ -77,21 +84,15 @@ impl Listing for OptionSeries {
 
     ghost transitive = { series_trans };
 
-    fn price_step() -> u32 {
-        Self::TICK
-    }
-
     fn is_same(&self, other: &OptionSeries) -> bool {
-        self.code.is_same(&other.code)
-            && self.strike == other.strike
-            && self.right.is_same(other.right)
+        self.contract == other.contract
     }
 
     fn form(&self) -> Result<(), RosterFault> {
-        self.code.form()?;
-        if self.strike < 1 || self.strike > MOST_STRIKE {
-            return Err(RosterFault::Malformed);
+        self.contract.code.form()?;
+        match self.contract.strike {
+            1..=MOST_STRIKE => Ok(()),
+            _ => Err(RosterFault::Malformed),
         }
-        Ok(())
     }
 }

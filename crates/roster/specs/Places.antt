@@ -1,6 +1,6 @@
 -- Entries in order: how many there may be, where one stands, and the entries without it.
-use Rattle.std.specs.Prelude.{ℕ, ◌+◌, Bool, cond, List, [], ◌∷◌, is_some, Some, None, Option}
-use Rattle.std.specs.List.{remove}
+use Rattle.std.specs.Prelude.{ℕ, Bool, List, is_some, Some, None, Option}
+use Rattle.std.specs.List.{find, position_from, remove}
 
 -- a roster uses no more places than these, however many are lent
 abbrev pub most_entries : ℕ
@@ -8,16 +8,14 @@ most_entries = 4096
 
 -- the place, counted from i, of the first entry that passes
 abbrev pub place_from : {L : Type 0} → ℕ → (L → Bool) → List L → Option ℕ
-place_from i p [] = None
-place_from i p (x ∷ xs) = cond (p x) (Some i) (place_from (i + 1) p xs)
+place_from i p xs = position_from p i xs
 
 abbrev pub place : {L : Type 0} → (L → Bool) → List L → Option ℕ
 place p xs = place_from 0 p xs
 
 -- the first entry that passes
 abbrev pub record_of : {L : Type 0} → (L → Bool) → List L → Option L
-record_of p [] = None
-record_of p (x ∷ xs) = cond (p x) (Some x) (record_of p xs)
+record_of p xs = find p xs
 
 -- whether some entry passes
 abbrev pub holds : {L : Type 0} → (L → Bool) → List L → Bool

@@ -2,25 +2,20 @@ ghost use Rattle.std.specs.Prelude.{◌≡◌};
 ghost use Rattle.roster.specs.Codes.{number};
 
 /// Why a listing was not entered or not taken out.
-#[derive(Clone, Copy)]
+#[derive(Clone, Copy, Debug, PartialEq, Eq)]
 pub enum RosterFault {
-    Malformed,
-    NotListed,
+    Malformed = 21,
+    NotListed = 22,
     /// No place is left.
-    Full,
+    Full = 27,
     /// The same listing is entered already.
-    Listed,
+    Listed = 28,
 }
 
 impl RosterFault {
     pub fn code(&self) -> u8
         ensures { result ≡ number self.now }
     {
-        match self {
-            RosterFault::Malformed => 21,
-            RosterFault::NotListed => 22,
-            RosterFault::Full => 27,
-            RosterFault::Listed => 28,
-        }
+        *self as u8
     }
 }

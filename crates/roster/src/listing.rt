@@ -9,16 +9,13 @@ pub trait Listing: Copy {
     /// The least step of a price, in hundredths of a point.
     const TICK: u32;
 
-    ghost step: { ℕ };
+    ghost TICK: { ℕ };
 
     ghost same: { Self → Self → Bool };
 
     ghost sound: { Self → Bool };
 
-    /// `TICK`, for code over any kind: there a contract can speak of this call, and not of a constant.
-    fn price_step() -> u32
-        ensures { result ≡ step };
-
+    // Kept: listings are the same by what they are known by, whatever their flags, so this is no `==`.
     fn is_same(&self, other: &Self) -> bool
         ensures { result ≡ same self.now other.now };
 
@@ -26,7 +23,7 @@ pub trait Listing: Copy {
     fn form(&self) -> Result<(), RosterFault>
         ensures { numbered result ≡ form_answer (sound self.now) };
 
-    ghost positive: { 0 < step };
+    ghost positive: { 0 < TICK };
 
     ghost reflexive: { (x : Self) → same x x ≡ true };
 

@@ -2,28 +2,29 @@
 use Rattle.std.proofs.Common.{◌≡◌, ℕ, Bool, true, false, cond, ltb, List, [], ◌∷◌, ◌++◌, length, is_ok, fold, sym, refl, ◌∙◌, subst, inl, inr}
 use Rattle.std.proofs.lemmas.Bool.{or_parts, or_from, cases_Bool, both_ways}
 use Rattle.roster.specs.Checks.{list_answer}
+use Rattle.std.specs.Set.{remove_key}
 use Rattle.roster.specs.Places.{holds}
 use Rattle.roster_laws.specs.declared.changes.Change.{Change}
 use Rattle.roster_laws.specs.declared.changes.Change.TheVariants.{Enter, Leave}
 use Rattle.roster_laws.specs.Changing.{any, made, after, changed}
 use Rattle.roster_laws.specs.Laws.{Equivalence, Apart}
-use Rattle.roster_laws.proofs.Firsts.{first_out, holds_any, without_first}
+use Rattle.roster_laws.proofs.Firsts.{holds_any, without_first}
 
 module _ {L : Type 0} where
   any_push : (p : L → Bool) (xs : List L) (x : L) → any p xs ≡ false → p x ≡ false → any p (xs ++ x ∷ []) ≡ false
   any_push p [] x h e = or_from (p x) false e refl
   any_push p (y ∷ ys) x h e = let q = or_parts (p y) (any p ys) h in or_from (p y) _ q.0 (any_push p ys x q.1 e)
 
-  any_out : (p q : L → Bool) (xs : List L) → any q xs ≡ false → any q (first_out p xs) ≡ false
+  any_out : (p q : L → Bool) (xs : List L) → any q xs ≡ false → any q (remove_key p xs) ≡ false
   any_out p q [] h = refl
   any_out p q (x ∷ xs) h =
       let r = or_parts (q x) (any q xs) h in
-      elim (p x) as (λ b. any q (cond b xs (x ∷ first_out p xs)) ≡ false) [ true ↦ r.1 | false ↦ or_from (q x) _ r.0 (any_out p q xs r.1) ]
+      elim (p x) as (λ b. any q (cond b xs (x ∷ remove_key p xs)) ≡ false) [ true ↦ r.1 | false ↦ or_from (q x) _ r.0 (any_out p q xs r.1) ]
 
-  apart_out : (same : L → L → Bool) (p : L → Bool) (xs : List L) → Apart same xs → Apart same (first_out p xs)
+  apart_out : (same : L → L → Bool) (p : L → Bool) (xs : List L) → Apart same xs → Apart same (remove_key p xs)
   apart_out same p [] h = tt
   apart_out same p (x ∷ xs) h =
-      elim (p x) as (λ b. Apart same (cond b xs (x ∷ first_out p xs))) [ true ↦ h.1 | false ↦ (any_out p (same x) xs h.0, apart_out same p xs h.1) ]
+      elim (p x) as (λ b. Apart same (cond b xs (x ∷ remove_key p xs))) [ true ↦ h.1 | false ↦ (any_out p (same x) xs h.0, apart_out same p xs h.1) ]
 
 entered_new : (sound entered free : Bool) → is_ok (list_answer sound entered free) ≡ true → entered ≡ false
 entered_new true true m e = sym e

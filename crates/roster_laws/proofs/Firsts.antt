@@ -2,13 +2,10 @@
 use Rattle.std.proofs.Common.{◌≡◌, ℕ, suc, ◌+◌, ◌-◌, ◌≤◌, Bool, true, false, cond, ◌||◌, List, [], ◌∷◌, is_some, Some, None, Option, sym, refl, ap, ◌∙◌, inl, inr, arith}
 use native.Mathlib.Nat.{sub-zero}
 use Rattle.std.specs.List.{remove}
+use Rattle.std.specs.Set.{remove_key}
 use Rattle.std.proofs.lemmas.Bool.{cond-true, cond-false, cases_Bool}
 use Rattle.roster.specs.Places.{place, place_from, without}
 use Rattle.roster_laws.specs.Changing.{any}
-
-abbrev pub first_out : {L : Type 0} → (L → Bool) → List L → List L
-first_out p [] = []
-first_out p (x ∷ xs) = cond (p x) xs (x ∷ first_out p xs)
 
 module _ {L : Type 0} (p : L → Bool) where
   pub holds_any : (i : ℕ) (xs : List L) → is_some (place_from i p xs) ≡ any p xs
@@ -18,7 +15,7 @@ module _ {L : Type 0} (p : L → Bool) where
 
   record Out (xs : List L) (i k : ℕ) : Type 0 where
     from : i ≤ k
-    left : first_out p xs ≡ remove xs (k - i)
+    left : remove_key p xs ≡ remove xs (k - i)
 
   out_here : (x : L) (xs : List L) (i k : ℕ) → p x ≡ true → i ≡ k → Out (x ∷ xs) i k
   out_here x xs i k t e =
@@ -41,7 +38,7 @@ module _ {L : Type 0} (p : L → Bool) where
         | inr t ↦ out_later x xs i k t (out_some xs (i + 1) k (sym (cond-false (p x) _ _ t) ∙ e))
       ]
 
-  out_none : (xs : List L) (i : ℕ) → place_from i p xs ≡ None → first_out p xs ≡ xs
+  out_none : (xs : List L) (i : ℕ) → place_from i p xs ≡ None → remove_key p xs ≡ xs
   out_none [] i e = refl
   out_none (x ∷ xs) i e =
       elim (cases_Bool (p x)) [
@@ -49,9 +46,9 @@ module _ {L : Type 0} (p : L → Bool) where
         | inr t ↦ cond-false (p x) _ _ t ∙ ap (λ (ys : List L). x ∷ ys) (out_none xs (i + 1) (sym (cond-false (p x) _ _ t) ∙ e))
       ]
 
-  out_at : (xs : List L) (o : Option ℕ) → place p xs ≡ o → without o xs ≡ first_out p xs
+  out_at : (xs : List L) (o : Option ℕ) → place p xs ≡ o → without o xs ≡ remove_key p xs
   out_at xs None e = sym (out_none xs 0 e)
   out_at xs (Some k) e = sym ((out_some xs 0 k e).left ∙ ap (remove xs) (sub-zero k))
 
-  pub without_first : (xs : List L) → without (place p xs) xs ≡ first_out p xs
+  pub without_first : (xs : List L) → without (place p xs) xs ≡ remove_key p xs
   without_first xs = out_at xs (place p xs) refl

@@ -1,40 +1,34 @@
 -- The entries that stand are those entered and not taken out later, in the order of entering.
-use Rattle.std.proofs.Common.{◌≡◌, ℕ, Bool, true, false, cond, ◌||◌, List, [], ◌∷◌, ◌++◌, fold, sym, refl, ap, ◌∙◌, inl, inr, append_assoc, append-nil}
+use Rattle.std.proofs.Common.{◌≡◌, ℕ, Bool, true, false, cond, not, ◌||◌, List, [], ◌∷◌, ◌++◌, fold, sym, refl, ap, ◌∙◌, inl, inr, append_assoc, append-nil}
+use Rattle.std.specs.List.{filter}
+use Rattle.std.proofs.lemmas.List.Elements.{filter-append}
 use Rattle.std.proofs.lemmas.Bool.{or_parts, or_from, cases_Bool, both_ways}
+use Rattle.std.specs.Set.{remove_key}
 use Rattle.roster_laws.specs.declared.changes.Change.{Change}
 use Rattle.roster_laws.specs.declared.changes.Change.TheVariants.{Enter, Leave}
 use Rattle.roster_laws.specs.Changing.{any, made, after, changed, made_from, takes_out, remaining, standing}
 use Rattle.roster_laws.specs.Laws.{Equivalence, Apart}
-use Rattle.roster_laws.proofs.Firsts.{first_out, without_first}
+use Rattle.roster_laws.proofs.Firsts.{without_first}
 use Rattle.roster_laws.proofs.Aparts.{apart_after}
 
 -- those that do not pass
 abbrev pub but : {L : Type 0} → (L → Bool) → List L → List L
-but p [] = []
-but p (x ∷ xs) = cond (p x) (but p xs) (x ∷ but p xs)
+but p xs = filter (λ x. not (p x)) xs
 
 module _ {L : Type 0} where
   but_none : (xs : List L) → but (λ _. false) xs ≡ xs
   but_none [] = refl
   but_none (x ∷ xs) = ap (λ (ys : List L). x ∷ ys) (but_none xs)
 
-  but_append : (p : L → Bool) (xs ys : List L) → but p (xs ++ ys) ≡ but p xs ++ but p ys
-  but_append p [] ys = refl
-  but_append p (x ∷ xs) ys =
-      elim (p x) as (λ b. cond b (but p (xs ++ ys)) (x ∷ but p (xs ++ ys)) ≡ cond b (but p xs) (x ∷ but p xs) ++ but p ys) [
-        | true ↦ but_append p xs ys
-        | false ↦ ap (λ (zs : List L). x ∷ zs) (but_append p xs ys)
-      ]
-
   -- where none passes p, leaving those out as well changes nothing
   but_either : (p q : L → Bool) (xs : List L) → any p xs ≡ false → but (λ x. p x || q x) xs ≡ but q xs
   but_either p q [] h = refl
   but_either p q (x ∷ xs) h =
       let r = or_parts (p x) (any p xs) h in
-      ap (λ (b : Bool). cond (b || q x) (but (λ y. p y || q y) xs) (x ∷ but (λ y. p y || q y) xs)) r.0
-      ∙ ap (λ (ys : List L). cond (q x) ys (x ∷ ys)) (but_either p q xs r.1)
+      ap (λ (b : Bool). cond (not (b || q x)) (x ∷ but (λ y. p y || q y) xs) (but (λ y. p y || q y) xs)) r.0
+      ∙ ap (λ (ys : List L). cond (not (q x)) (x ∷ ys) ys) (but_either p q xs r.1)
 
-  last_entered : (x : L) (rest : List L) (b : Bool) → cond b [] (x ∷ []) ++ rest ≡ cond b rest (x ∷ rest)
+  last_entered : (x : L) (rest : List L) (b : Bool) → cond (not b) (x ∷ []) [] ++ rest ≡ cond b rest (x ∷ rest)
   last_entered x rest true = refl
   last_entered x rest false = refl
 
@@ -48,18 +42,18 @@ module _ {L : Type 0} (sound : L → Bool) (same : L → L → Bool) (room : ℕ
       elim (cases_Bool (same y x)) [ inl e ↦ absurd (both_ways (same z x) r.0 (eq.transitive z y x (eq.symmetric y z t) e)) | inr f ↦ f ] in
       or_from (same y x) _ other (only_one y z xs t r.1)
 
-  but_first : (y : L) (q : L → Bool) (xs : List L) → Apart same xs → but q (first_out (same y) xs) ≡ but (λ x. same y x || q x) xs
+  but_first : (y : L) (q : L → Bool) (xs : List L) → Apart same xs → but q (remove_key (same y) xs) ≡ but (λ x. same y x || q x) xs
   but_first y q [] h = refl
   but_first y q (x ∷ xs) h =
       elim (cases_Bool (same y x)) [
         | inl t ↦
-            ap (λ (b : Bool). but q (cond b xs (x ∷ first_out (same y) xs))) t
+            ap (λ (b : Bool). but q (cond b xs (x ∷ remove_key (same y) xs))) t
             ∙ sym (but_either (same y) q xs (only_one y x xs t h.0))
-            ∙ sym (ap (λ (b : Bool). cond (b || q x) (but (λ z. same y z || q z) xs) (x ∷ but (λ z. same y z || q z) xs)) t)
+            ∙ sym (ap (λ (b : Bool). cond (not (b || q x)) (x ∷ but (λ z. same y z || q z) xs) (but (λ z. same y z || q z) xs)) t)
         | inr f ↦
-            ap (λ (b : Bool). but q (cond b xs (x ∷ first_out (same y) xs))) f
-            ∙ ap (λ (ys : List L). cond (q x) ys (x ∷ ys)) (but_first y q xs h.1)
-            ∙ sym (ap (λ (b : Bool). cond (b || q x) (but (λ z. same y z || q z) xs) (x ∷ but (λ z. same y z || q z) xs)) f)
+            ap (λ (b : Bool). but q (cond b xs (x ∷ remove_key (same y) xs))) f
+            ∙ ap (λ (ys : List L). cond (not (q x)) (x ∷ ys) ys) (but_first y q xs h.1)
+            ∙ sym (ap (λ (b : Bool). cond (not (b || q x)) (x ∷ but (λ z. same y z || q z) xs) (but (λ z. same y z || q z) xs)) f)
       ]
 
   -- what the changes ms, all made, leave of the entries xs and add to them
@@ -69,7 +63,7 @@ module _ {L : Type 0} (sound : L → Bool) (same : L → L → Bool) (room : ℕ
   one_made : (xs : List L) (c : Change L) (ms : List (Change L)) → Apart same xs → left (after same xs c) ms ≡ left xs (c ∷ ms)
   one_made xs (Enter x) ms h =
       let q : L → Bool = λ z. any (takes_out same z) ms in
-      ap (λ (ys : List L). ys ++ remaining same ms) (but_append q xs (x ∷ []))
+      ap (λ (ys : List L). ys ++ remaining same ms) (filter-append (λ z. not (q z)) xs (x ∷ []))
       ∙ append_assoc (but q xs) (but q (x ∷ [])) (remaining same ms)
       ∙ ap (λ (ys : List L). but q xs ++ ys) (last_entered x (remaining same ms) (q x))
   one_made xs (Leave y) ms h =

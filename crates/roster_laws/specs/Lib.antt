@@ -1,2 +1,3 @@
 pub mod Changing
 pub mod Laws
+pub mod Kinds

@@ -5,90 +5,67 @@
 mod tests {
     use listings::code::{MonthCode, month_of};
     use listings::futures::FuturesMonth;
-    use listings::series::{OptionSeries, Right};
+    use listings::series::{OptionContract, OptionSeries, Right};
     use roster::fault::RosterFault;
     use roster::held::Roster;
     use roster::listing::Listing;
     use std::test::Fail;
 
     fn month(letter: char) -> FuturesMonth {
-        FuturesMonth {
+        FuturesMonth::from(MonthCode { letter, year: 27 })
+    }
+
+    fn contract(letter: char, strike: u32) -> OptionContract {
+        OptionContract {
             code: MonthCode { letter, year: 27 },
-            last_day: false,
+            strike,
+            right: Right::Call,
         }
     }
 
     fn series(strike: u32) -> OptionSeries {
-        OptionSeries {
-            code: MonthCode {
-                letter: 'H',
-                year: 27,
-            },
-            strike,
-            right: Right::Call,
-            last_day: false,
-        }
+        OptionSeries::from(contract('H', strike))
     }
 
-    // 0, or a refusal's code.
-    fn code(answer: Result<(), RosterFault>) -> u8 {
-        match answer {
-            Ok(()) => 0,
-            Err(fault) => fault.code(),
-        }
-    }
-
-    // The month of a letter, or a refusal's code.
-    fn month_number(letter: u8) -> u8 {
-        match month_of(char::from(letter)) {
-            Ok(number) => number,
-            Err(fault) => fault.code(),
-        }
+    // An answer, its refusal as a code.
+    fn coded<T>(answer: Result<T, RosterFault>) -> Result<T, u8> {
+        answer.map_err(|fault| fault.code())
     }
 
     #[test]
     fn each_letter_has_its_month_and_no_other_has_one(rt: HostRuntime) {
-        for (place, letter) in b"FGHJKMNQUVXZ".iter().enumerate() {
-            assert_eq!(rt; usize::from(month_number(*letter)), place + 1);
+        for (letter, number) in "FGHJKMNQUVXZ".chars().zip(1..=12) {
+            assert_eq!(rt; coded(month_of(letter)), Ok(number));
         }
-        for letter in b"AEILOPRSTWYfz1" {
-            assert_eq!(rt; month_number(*letter), 21);
-        }
-    }
-
-    // The year that a word's code has, or a refusal's code and 200.
-    fn year_read(word: &[u8]) -> u8 {
-        match MonthCode::read(word) {
-            Ok(code) => code.year,
-            Err(fault) => fault.code().saturating_add(200),
+        for letter in "AEILOPRSTWYfz1".chars() {
+            assert_eq!(rt; coded(month_of(letter)), Err(21));
         }
     }
 
     #[test]
     fn a_code_is_a_letter_and_two_digits(rt: HostRuntime) {
-        assert_eq!(rt; year_read(b"H00"), 0);
-        assert_eq!(rt; year_read(b"Z99"), 99);
-        assert_eq!(rt; year_read(b"Z100"), 221);
-        assert_eq!(rt; year_read(b"Z9"), 221);
-        assert_eq!(rt; year_read(b"A27"), 221);
-        assert_eq!(rt; year_read(b"H2x"), 221);
+        let year_read = |word: &[u8]| coded(MonthCode::try_from(word)).map(|code| code.year);
+        assert_eq!(rt; year_read(b"H00"), Ok(0));
+        assert_eq!(rt; year_read(b"Z99"), Ok(99));
+        assert_eq!(rt; year_read(b"Z100"), Err(21));
+        assert_eq!(rt; year_read(b"Z9"), Err(21));
+        assert_eq!(rt; year_read(b"A27"), Err(21));
+        assert_eq!(rt; year_read(b"H2x"), Err(21));
     }
 
     #[test]
     fn years_and_strikes_have_bounds(rt: HostRuntime) {
-        for (year, answer) in [(0, 0), (99, 0), (100, 21)] {
-            let code_of_year = MonthCode { letter: 'H', year };
-            assert_eq!(rt;
-                code(FuturesMonth {
-                    code: code_of_year,
-                    last_day: false,
-                }
-                .form()),
-                answer
-            );
+        for (year, answer) in [(0, Ok(())), (99, Ok(())), (100, Err(21))] {
+            let month = FuturesMonth::from(MonthCode { letter: 'H', year });
+            assert_eq!(rt; coded(month.form()), answer);
         }
-        for (strike, answer) in [(0, 21), (1, 0), (400_000, 0), (400_001, 21)] {
-            assert_eq!(rt; code(series(strike).form()), answer);
+        for (strike, answer) in [
+            (0, Err(21)),
+            (1, Ok(())),
+            (400_000, Ok(())),
+            (400_001, Err(21)),
+        ] {
+            assert_eq!(rt; coded(series(strike).form()), answer);
         }
     }
 
@@ -98,11 +75,11 @@ mod tests {
         Delist(char),
     }
 
-    fn answer_to(months: &mut Roster<'_, FuturesMonth>, asked: Ask) -> u8 {
-        match asked {
-            Ask::List(letter) => code(months.list(month(letter))),
-            Ask::Delist(letter) => code(months.delist(&month(letter))),
-        }
+    fn answer_to(months: &mut Roster<'_, FuturesMonth>, asked: Ask) -> Result<(), u8> {
+        coded(match asked {
+            Ask::List(letter) => months.list(month(letter)),
+            Ask::Delist(letter) => months.delist(&month(letter)),
+        })
     }
 
     #[test]
@@ -110,24 +87,21 @@ mod tests {
         let mut place = [month('F'); 1];
         let mut months = Roster::new(&mut place);
         for (asked, answer) in [
-            (Ask::Delist('F'), 22),
-            (Ask::List('H'), 0),
-            (Ask::List('H'), 28),
-            (Ask::List('M'), 27),
-            (Ask::Delist('H'), 0),
-            (Ask::List('M'), 0),
-            (Ask::List('A'), 21),
-            (Ask::Delist('A'), 21),
+            (Ask::Delist('F'), Err(22)),
+            (Ask::List('H'), Ok(())),
+            (Ask::List('H'), Err(28)),
+            (Ask::List('M'), Err(27)),
+            (Ask::Delist('H'), Ok(())),
+            (Ask::List('M'), Ok(())),
+            (Ask::List('A'), Err(21)),
+            (Ask::Delist('A'), Err(21)),
         ] {
             assert_eq!(rt; answer_to(&mut months, asked), answer);
         }
     }
 
     fn letter_at(months: &[FuturesMonth], at: usize) -> char {
-        match months.get(at) {
-            Some(month) => month.code.letter,
-            None => '-',
-        }
+        months.get(at).map_or('-', |month| month.code.letter)
     }
 
     // The letters that stand after H, M and U were listed, one was taken out and one was listed.
@@ -144,12 +118,7 @@ mod tests {
             let _ = answer_to(&mut months, asked);
         }
         let all = months.entries();
-        [
-            letter_at(all, 0),
-            letter_at(all, 1),
-            letter_at(all, 2),
-            letter_at(all, 3),
-        ]
+        [0, 1, 2, 3].map(|at| letter_at(all, at))
     }
 
     #[test]
@@ -161,7 +130,7 @@ mod tests {
         assert!(rt; order_after('Z', 'Z') == ['H', 'M', 'U', 'Z']);
     }
 
-    // Whether today is the last day of a listed month, asked for by its code alone.
+    // A month asked for by its code alone comes with the flag that it was listed with.
     #[test]
     fn the_record_is_found_and_not_the_one_asked_for(rt: HostRuntime) {
         let mut places = [month('F'); 2];
@@ -170,34 +139,25 @@ mod tests {
             last_day: true,
             ..month('H')
         };
-        assert_eq!(rt; code(months.list(last)), 0);
-        assert!(rt;
-            matches!(
-                months.find(&month('H')),
-                Some(FuturesMonth { last_day: true, .. })
-            )
-        );
-        assert!(rt; months.find(&month('F')).is_none());
+        assert_eq!(rt; coded(months.list(last)), Ok(()));
+        assert_eq!(rt; months.find(&month('H')), Some(last));
+        assert_eq!(rt; months.find(&month('F')), None);
     }
 
-    // How many series the places take, and the code that the next one gets.
-    fn fill(places: &mut [OptionSeries]) -> (usize, u8) {
+    // How many series the places take, and what the next one is answered.
+    fn fill(places: &mut [OptionSeries]) -> (usize, Result<(), u8>) {
         let mut all = Roster::new(places);
-        for strike in 1..5000 {
-            if let Err(fault) = all.list(series(strike)) {
-                return (all.len(), fault.code());
-            }
-        }
-        (all.len(), 0)
+        let answer = (1..5000).try_for_each(|strike| all.list(series(strike)));
+        (all.len(), coded(answer))
     }
 
     #[test]
     fn no_more_than_4096_places_are_used(rt: HostRuntime) -> Result<(), Fail> {
         let mut places = vec![in rt.alloc(); series(0); 4097]?;
-        assert_eq!(rt; fill(&mut places), (4096, 27));
+        assert_eq!(rt; fill(&mut places), (4096, Err(27)));
         assert!(rt; places.len() == 4097);
-        assert_eq!(rt; places[4096].strike, 0);
-        assert_eq!(rt; fill(&mut places[0..4096]), (4096, 27));
+        assert_eq!(rt; places[4096].contract.strike, 0);
+        assert_eq!(rt; fill(&mut places[0..4096]), (4096, Err(27)));
         Ok(())
     }
 
@@ -211,14 +171,7 @@ mod tests {
             ('V', 'Z'),
             ('Z', 'Z'),
         ] {
-            let option = OptionSeries {
-                code: MonthCode {
-                    letter: own,
-                    year: 27,
-                },
-                ..series(1)
-            };
-            let underlying = option.underlying();
+            let underlying = contract(own, 1).underlying();
             assert!(rt; underlying.letter == on && underlying.year == 27);
         }
     }

@@ -1,14 +1,14 @@
-ghost use Rattle.std.specs.Prelude.{◌≡◌, ◌<◌, min, false, [], ◌∷◌, ◌++◌, length, take, is_ok, if◌then◌else◌, nat_lt};
+ghost use Rattle.std.specs.Prelude.{◌≡◌, ◌<◌, min, false, [], ◌∷◌, ◌++◌, length, take, is_ok, IfSome, if◌then◌else◌, nat_lt};
 ghost use Rattle.std.specs.List.{remove};
 ghost use Rattle.roster.specs.Codes.{numbered};
 ghost use Rattle.roster.specs.Checks.{list_answer, delist_answer};
 ghost use Rattle.roster.specs.Places.{most_entries, place, record_of, holds, without};
-ghost use Rattle.roster.specs.Rosters.{entries_of, places_from, room_of};
+ghost use Rattle.roster.specs.Rosters.{entries_of, room_of, KeepsPlaces};
 
 use super::Roster;
 use crate::fault::RosterFault;
 use crate::listing::Listing;
-use crate::lookup::{find_entry, place_of};
+use crate::lookup::find_entry;
 
 // A roster never uses more places than this, however many are lent.
 const MOST: usize = 4096;
@@ -48,18 +48,15 @@ impl<'a, L> Roster<'a, L> {
     }
 }
 
+// Kept: that a change keeps the places stands in the contract of each, since no field of one roster can say it of two.
 impl<L: Copy> Roster<'_, L> {
     // Takes out the entry at a place: those behind it move up by one.
     fn remove(&mut self, at: usize)
         requires { at < self.old.len }
         ensures entries { entries_of self.new ≡ remove (entries_of self.old) at }
-        ensures behind { places_from self.new.len self.new ≡ places_from self.new.len self.old }
-        ensures lent { length self.new.places.now ≡ length self.old.places.now }
-        ensures lender { self.new.places.ghost_name ≡ self.old.places.ghost_name }
+        ensures places { KeepsPlaces self.old self.new }
     {
-        for i in at + 1..self.len {
-            self.places[i - 1] = self.places[i];
-        }
+        self.places.copy_within(at + 1..self.len, at);
         self.len -= 1;
     }
 }
@@ -67,9 +64,12 @@ impl<L: Copy> Roster<'_, L> {
 impl<L: Listing> Roster<'_, L> {
     // Where the first entry stands that is the same as the wanted one.
     fn position(&self, wanted: &L) -> Option<usize>
-        ensures { result ≡ place (L.Listing.same wanted.now) (entries_of self.now) }
+        ensures first { result ≡ place (L.Listing.same wanted.now) (entries_of self.now) }
+        ensures within { IfSome result (λ at. at < self.now.len) }
     {
-        place_of(self.entries(), wanted)
+        self.entries()
+            .iter()
+            .position(|entry| wanted.is_same(entry))
     }
 
     /// The entry that is the same as the wanted one, as it was entered.
@@ -79,15 +79,13 @@ impl<L: Listing> Roster<'_, L> {
         find_entry(self.entries(), wanted)
     }
 
-    /// Enters a listing behind the last entry, or leaves the roster and every place as they were. Whatever lies
-    /// behind the entries stays, so the places past the room are never written.
+    /// Enters a listing behind the last entry, or leaves the roster and every place as they were. No other place is
+    /// written, and none past the room.
     pub fn list(&mut self, listing: L) -> Result<(), RosterFault>
         ensures gives { numbered result ≡ list_answer (L.Listing.sound listing) (holds (L.Listing.same listing) (entries_of self.old)) (nat_lt (length (entries_of self.old)) (room_of self.old)) }
         ensures entries { entries_of self.new ≡ (if is_ok result then entries_of self.old ++ listing ∷ [] else entries_of self.old) }
-        ensures behind { places_from self.new.len self.new ≡ places_from self.new.len self.old }
+        ensures places { KeepsPlaces self.old self.new }
         ensures kept { is_ok result ≡ false → self.new ≡ self.old }
-        ensures lent { length self.new.places.now ≡ length self.old.places.now }
-        ensures lender { self.new.places.ghost_name ≡ self.old.places.ghost_name }
     {
         listing.form()?;
         if self.position(&listing).is_some() {
@@ -106,15 +104,11 @@ impl<L: Listing> Roster<'_, L> {
     pub fn delist(&mut self, listing: &L) -> Result<(), RosterFault>
         ensures gives { numbered result ≡ delist_answer (L.Listing.sound listing.now) (holds (L.Listing.same listing.now) (entries_of self.old)) }
         ensures entries { entries_of self.new ≡ (if is_ok result then without (place (L.Listing.same listing.now) (entries_of self.old)) (entries_of self.old) else entries_of self.old) }
-        ensures behind { places_from self.new.len self.new ≡ places_from self.new.len self.old }
+        ensures places { KeepsPlaces self.old self.new }
         ensures kept { is_ok result ≡ false → self.new ≡ self.old }
-        ensures lent { length self.new.places.now ≡ length self.old.places.now }
-        ensures lender { self.new.places.ghost_name ≡ self.old.places.ghost_name }
     {
         listing.form()?;
-        let Some(at) = self.position(listing) else {
-            return Err(RosterFault::NotListed);
-        };
+        let at = self.position(listing).ok_or(RosterFault::NotListed)?;
         self.remove(at);
         Ok(())
     }

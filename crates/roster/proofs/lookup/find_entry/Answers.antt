@@ -1,14 +1,9 @@
-use Rattle.std.proofs.Common.{sym, ◌∙◌}
-use Rattle.roster.proofs.Firsts.{record_hit, record_miss, record_end}
+use Rattle.std.proofs.Common.{rules, tests}
+use Rattle.std.proofs.lemmas.Iterator.{YieldsList-from_slice}
+use Rattle.std.proofs.lemmas.Iterator.Search.{find_from_yields_List}
 use Rattle.roster.proofs.lookup.find_entry.Goals as goal
 
-pub returns-then-is_same : goal.returns-then-is_same
-returns-then-is_same g c =
-    sym (record_hit _ _ _ _ c.loop-entry-test.true c.entry-item.is (sym c.if-is_same.ensures)) ∙ c.loop-entry.invariant
-
-pub loop-entry-preserved : goal.loop-entry-preserved
-loop-entry-preserved g c =
-    sym (record_miss _ _ _ _ c.loop-entry-test.true c.entry-item.is (sym c.if-is_same.ensures)) ∙ c.loop-entry.invariant
-
 pub returns : goal.returns
-returns g c = sym (record_end _ _ _ c.loop-entry-test.false) ∙ c.loop-entry.invariant
+returns g c =
+    let found = find_from_yields_List (g.L.Listing.same c.args.wanted.now) _ _ c.find.result c.find.ensures.ran (YieldsList-from_slice c.args.entries.now cc) (λ x b q k. search (rules, tests)) in
+    search rules

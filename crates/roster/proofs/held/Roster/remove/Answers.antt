@@ -1,27 +1,22 @@
-use Rattle.std.proofs.Common.{◌≡◌, ℕ, ◌-◌, take, drop, sym, refl, ap, ◌∙◌, arith, length-set}
-use Rattle.roster.proofs.Gaps.{closed, closed_none, closed_step, closed_done}
+use Rattle.std.proofs.Common.{◌≡◌, ℕ, ◌+◌, ◌-◌, ◌<◌, ◌≤◌, List, length, take, drop, arith, length-drop, add-one, rules}
+use Rattle.std.specs.List.{copy_within, remove}
+use Rattle.std.proofs.lemmas.List.{take-take, drop-take}
+use Rattle.std.proofs.lemmas.List.Edits.{take-paste}
 use Rattle.roster.proofs.held.Roster.remove.Goals as goal
 
-pub loop-i-init : goal.loop-i-init
-loop-i-init g c = (refl, closed_none c.args.self.now.places.now c.args.at, refl, refl)
+moved_up : {X : Type 0} (xs : List X) (at len : ℕ) → at < len → len ≤ length xs → take (len - 1) (copy_within xs (at + 1) len at) ≡ remove (take len xs) at
+moved_up xs at len l h =
+    let n : ℕ = len - (at + 1) in
+    let low : len - 1 ≡ at + n = omega arith in
+    let high : len ≡ at + 1 + n = omega arith in
+    let fits : n ≤ length (drop (at + 1) xs) = grind (arith, length-drop (at + 1) xs) in
+    let cut = take-paste xs at (drop (at + 1) xs) n (omega arith) fits in
+    let head = take-take at len xs (omega arith) in
+    let tail = drop-take (at + 1) n xs in
+    let one = add-one at in
+    cc
 
-pub loop-i-preserved : goal.loop-i-preserved
-loop-i-preserved g c =
-    let xs = c.args.self.now.places.now in
-    let more = closed_step xs c.args.at c.loop-i.self.places.now c.loop-i.i c.index-self-i.result (omega arith) (omega (arith, c.args.self.now.within)) c.loop-i.invariant.1 in
-    (c.loop-i.invariant.0, more, c.loop-i.invariant.2, length-set _ _ _ ∙ c.loop-i.invariant.3)
-
-pub returns : goal.returns
-returns g c =
-    let xs = c.args.self.now.places.now in
-    let ys = c.loop-i.self.places.now in
-    let len = c.args.self.now.len in
-    let end : c.loop-i.i ≡ len = omega arith in
-    let d = closed_done xs c.args.at ys len c.requires c.args.self.now.within (c.loop-i.invariant.1 ∙ ap (λ (j : ℕ). closed xs c.args.at (j - 1 - c.args.at)) end) in
-    let same = c.loop-i.invariant.0 in
-    record {
-      entries = ap (λ (j : ℕ). take (j - 1) ys) same ∙ d.entries;
-      behind = ap (λ (j : ℕ). drop (j - 1) ys) same ∙ d.behind ∙ sym (ap (λ (j : ℕ). drop (j - 1) xs) same);
-      lent = c.loop-i.invariant.3;
-      lender = c.loop-i.invariant.2;
-    }
+pub returns-clause-entries : goal.returns-clause-entries
+returns-clause-entries g c =
+    let entries = moved_up c.args.self.now.places.now c.args.at c.args.self.now.len c.requires c.args.self.now.within in
+    search rules
