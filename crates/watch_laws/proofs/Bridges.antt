@@ -1,13 +1,13 @@
 -- The reading of accepted marks, and the closed form.
 use Rattle.std.proofs.Common.{◌≡◌, ℕ, ◌+◌, ◌≤◌, Bool, true, false, cond, ◌&&◌, ◌||◌, ltb, leb, List, [], ◌∷◌, length, Some, None, Option, sym, refl, ap, ◌∙◌, arith}
 use Rattle.std.proofs.lemmas.Bool.Decides.{nat_tests}
+use Rattle.std.proofs.Math.Bool.{or-false}
 use Rattle.std.proofs.lemmas.Bool.{cond_both, and_parts, leb-true}
 use Rattle.watches.specs.declared.state.Side.{Side}
 use Rattle.watches.specs.declared.state.Side.TheVariants.{Upper, Lower}
 use Rattle.watches.specs.declared.state.Kind.{Kind}
 use Rattle.watches.specs.declared.state.Kind.TheVariants.{Bid, Offered, Clear}
 use Rattle.watches.specs.declared.state.AcceptedMark.{AcceptedMark}
-use Rattle.watches.specs.declared.state.Phase.{Phase}
 use Rattle.watches.specs.declared.state.Band.{Band}
 use Rattle.watches.specs.declared.state.State.{State}
 use Rattle.watches.specs.Words.{span, of, side_of}
@@ -76,22 +76,29 @@ band_read (s ∷ ss) t a =
     let w = none_watched ss t o in
     grind (arith, nat_tests, l, w)
 
--- the halt of the newest watch, where b says that the last mark, at u, is of its side; and whether it has begun
+-- the halt of the newest watch, where the last mark, at u, is of its side, and whether it has begun
+abbrev its_halt : ℕ → ℕ → List ℕ → Option ℕ
+its_halt u t [] = None
+its_halt u t (s ∷ ss) = cond (ltb u (s + span) && (leb (s + span) t && ltb t (s + span + span))) (Some (s + span + span)) None
+
+abbrev its_began : ℕ → ℕ → List ℕ → Bool
+its_began u t [] = false
+its_began u t (s ∷ ss) = ltb u (s + span) && leb (s + span) t
+
+-- b says that the last mark is of the side
 abbrev newest_halt : Bool → ℕ → ℕ → List ℕ → Option ℕ
-newest_halt b u t [] = None
-newest_halt b u t (s ∷ ss) = cond (b && (ltb u (s + span) && (leb (s + span) t && ltb t (s + span + span)))) (Some (s + span + span)) None
+newest_halt b u t ss = cond b (its_halt u t ss) None
 
 abbrev newest_began : Bool → ℕ → ℕ → List ℕ → Bool
-newest_began b u t [] = false
-newest_began b u t (s ∷ ss) = b && (ltb u (s + span) && leb (s + span) t)
+newest_began b u t ss = b && its_began u t ss
 
 none_parts : (b : Bool) (x : ℕ) (o : Option ℕ) → cond b (Some x) o ≡ None → (b ≡ false) × (o ≡ None)
-none_parts true x o e = let z : ◌≡◌ {A = ℕ} 0 1 = cc in absurd (omega arith)
+none_parts true x o e = (cc, cc)
 none_parts false x o e = (refl, e)
 
 else_parts : (x y : Option ℕ) → or_else x y ≡ None → (x ≡ None) × (y ≡ None)
 else_parts None y e = (refl, e)
-else_parts (Some x) y e = let z : ◌≡◌ {A = ℕ} 0 1 = cc in absurd (omega arith)
+else_parts (Some x) y e = (cc, cc)
 
 module _ (side : Side) (m : AcceptedMark) (ms : List AcceptedMark) where
   -- a mark that starts a watch leaves no halt at its moment
@@ -113,7 +120,7 @@ module _ (side : Side) (m : AcceptedMark) (ms : List AcceptedMark) where
 
     -- only the newest watch of the mark's side may end in a halt from now on
     halt_read : (ss : List ℕ) → Apart ss m.time → halt_of side ms ss m.time ≡ None → halt_of side (m ∷ ms) ss t ≡ newest_halt (of side m.kind) m.time t ss
-    halt_read [] a e = refl
+    halt_read [] a e = grind arith
     halt_read (s ∷ ss) a e =
         let k = a.0 in
         let p = none_parts (leb (s + span) m.time && ltb m.time (s + span + span) && last_mark_of side ms (s + span)) (s + span + span) (halt_of side ms ss m.time) e in
@@ -130,36 +137,23 @@ module _ (side : Side) (m : AcceptedMark) (ms : List AcceptedMark) where
         grind (arith, nat_tests, r)
 
     began_read : (ss : List ℕ) → Apart ss m.time → halt_began side (m ∷ ms) ss m.time t ≡ newest_began (of side m.kind) m.time t ss
-    began_read [] a = refl
+    began_read [] a = grind arith
     began_read (s ∷ ss) a =
         let k = a.0 in
         let r = none_began ss (over_later ss s m.time (omega arith) a.1) in
         grind (arith, nat_tests, r)
 
--- a side that the last mark is not of, and the side that it is of
-no_halt : (u t : ℕ) (ss : List ℕ) → newest_halt false u t ss ≡ None
-no_halt u t [] = refl
-no_halt u t (s ∷ ss) = refl
-
-not_begun : (u t : ℕ) (ss : List ℕ) → newest_began false u t ss ≡ false
-not_begun u t [] = refl
-not_begun u t (s ∷ ss) = refl
-
-its_phase : (u t : ℕ) (ss : List ℕ) → phase_till (newest_halt true u t ss) ≡ phase_of u t ss
+its_phase : (u t : ℕ) (ss : List ℕ) → phase_till (its_halt u t ss) ≡ phase_of u t ss
 its_phase u t [] = refl
 its_phase u t (s ∷ ss) = grind (arith, nat_tests)
 
-its_standing : (d : Side) (u t : ℕ) (ss : List ℕ) → cond (newest_began true u t ss) None (Some d) ≡ stands_of d u t ss
+its_standing : (d : Side) (u t : ℕ) (ss : List ℕ) → cond (its_began u t ss) None (Some d) ≡ stands_of d u t ss
 its_standing d u t [] = refl
 its_standing d u t (s ∷ ss) = refl
 
 else_none : (x : Option ℕ) → or_else x None ≡ x
 else_none None = refl
 else_none (Some x) = refl
-
-or_false : (b : Bool) → (b || false) ≡ b
-or_false true = refl
-or_false false = refl
 
 module _ (n u t : ℕ) (l : List AcceptedMark) where
   abbrev U : List ℕ
@@ -169,29 +163,14 @@ module _ (n u t : ℕ) (l : List AcceptedMark) where
   L = watch_starts n Lower l
 
   phase_kinds : (k : Kind) → phase_till (or_else (newest_halt (of Upper k) u t U) (newest_halt (of Lower k) u t L)) ≡ phase_by n k u t l
-  phase_kinds Bid =
-      ap (λ (o : Option ℕ). phase_till (or_else (newest_halt true u t U) o)) (no_halt u t L)
-      ∙ ap phase_till (else_none (newest_halt true u t U)) ∙ its_phase u t U
-  phase_kinds Offered = ap (λ (o : Option ℕ). phase_till (or_else o (newest_halt true u t L))) (no_halt u t U) ∙ its_phase u t L
-  phase_kinds Clear =
-      ap (λ (o : Option ℕ). phase_till (or_else o (newest_halt false u t L))) (no_halt u t U) ∙ ap phase_till (no_halt u t L)
+  phase_kinds Bid = ap phase_till (else_none (its_halt u t U)) ∙ its_phase u t U
+  phase_kinds Offered = its_phase u t L
+  phase_kinds Clear = refl
 
   stands_kinds : (k : Kind) → cond (newest_began (of Upper k) u t U || newest_began (of Lower k) u t L) None (side_of k) ≡ stands_by n k u t l
-  stands_kinds Bid =
-      ap (λ (b : Bool). cond (newest_began true u t U || b) None (Some Upper)) (not_begun u t L)
-      ∙ ap (λ (b : Bool). cond b None (Some Upper)) (or_false (newest_began true u t U)) ∙ its_standing Upper u t U
-  stands_kinds Offered =
-      ap (λ (b : Bool). cond (b || newest_began true u t L) None (Some Lower)) (not_begun u t U) ∙ its_standing Lower u t L
-  stands_kinds Clear = cond_both (newest_began false u t U || newest_began false u t L) None None (λ (o : Option Side). o ≡ None) (λ _. refl) (λ _. refl)
-
-either : {A : Type 0} {a b c d : A} (f : A → A → A) → a ≡ b → c ≡ d → f a c ≡ f b d
-either f p q = cc
-
-abbrev made : ℕ → Band → Band → Phase → Option Side → State
-made t u l p s = record { clock = t; upper = u; lower = l; phase = p; standing = s }
-
-make : (t : ℕ) {u v l k : Band} {p q : Phase} {s r : Option Side} → u ≡ v → l ≡ k → p ≡ q → s ≡ r → made t u l p s ≡ made t v k q r
-make t a b c d = cc
+  stands_kinds Bid = ap (λ (b : Bool). cond b None (Some Upper)) (or-false (its_began u t U)) ∙ its_standing Upper u t U
+  stands_kinds Offered = its_standing Lower u t L
+  stands_kinds Clear = refl
 
 -- the reading is the closed form
 pub bridge : (n : ℕ) (ms : List AcceptedMark) (t : ℕ) → Came n ms → newest ms ≤ t → read n ms t ≡ view n ms t
@@ -199,20 +178,20 @@ bridge n [] t c g = refl
 bridge n (m ∷ ms) t c g =
     let u = m.time in
     let l : List AcceptedMark = m ∷ ms in
-    let S = watch_starts n Upper ms in
-    let R = watch_starts n Lower ms in
+    let S = watch_starts n Upper l in
+    let R = watch_starts n Lower l in
     let a = starts_apart n Upper l c in
     let b = starts_apart n Lower l c in
-    let o = else_parts (halt_of Upper ms S u) (halt_of Lower ms R u) c.2 in
-    let hu = halt_read Upper m ms t g (watch_starts n Upper l) a (no_halt_yet Upper m ms n S o.0) in
-    let hl = halt_read Lower m ms t g (watch_starts n Lower l) b (no_halt_yet Lower m ms n R o.1) in
-    let bu = began_read Upper m ms t g (watch_starts n Upper l) a in
-    let bl = began_read Lower m ms t g (watch_starts n Lower l) b in
-    make t
-    (band_read (watch_starts n Upper l) t (apart_later (watch_starts n Upper l) u t g a))
-    (band_read (watch_starts n Lower l) t (apart_later (watch_starts n Lower l) u t g b))
-    (ap phase_till (either or_else hu hl) ∙ phase_kinds n u t l m.kind)
-    (ap (λ (x : Bool). cond x None (side_of m.kind)) (either ◌||◌ bu bl) ∙ stands_kinds n u t l m.kind)
+    let o = else_parts (halt_of Upper ms (watch_starts n Upper ms) u) (halt_of Lower ms (watch_starts n Lower ms) u) c.2 in
+    let hu = halt_read Upper m ms t g S a (no_halt_yet Upper m ms n (watch_starts n Upper ms) o.0) in
+    let hl = halt_read Lower m ms t g R b (no_halt_yet Lower m ms n (watch_starts n Lower ms) o.1) in
+    let bu = began_read Upper m ms t g S a in
+    let bl = began_read Lower m ms t g R b in
+    let up = band_read S t (apart_later S u t g a) in
+    let low = band_read R t (apart_later R u t g b) in
+    let phase = phase_kinds n u t l m.kind in
+    let stands = stands_kinds n u t l m.kind in
+    cc
 
 open_none : (o : Option ℕ) → o ≡ None → is_open (phase_till o) ≡ true
 open_none None e = refl

@@ -21,9 +21,12 @@ record Held (f : ℕ → Phase) (t e : ℕ) : Type 0 where
   same : (u : ℕ) → t ≤ u → u < e → f u ≡ Halted e
   over : (u : ℕ) → e ≤ u → f u ≡ Open
 
+not_open : {A : Type 0} (e : ℕ) → Open ≡ Halted e → A
+not_open e q = let z : ◌≡◌ {A = ℕ} 0 1 = cc in absurd (omega arith)
+
 module _ (a t e : ℕ) where
   newest_held : (ss : List ℕ) → phase_of a t ss ≡ Halted e → Held (λ (u : ℕ). phase_of a u ss) t e
-  newest_held [] q = let z : ◌≡◌ {A = ℕ} 0 1 = cc in absurd (omega arith)
+  newest_held [] q = not_open e q
   newest_held (s ∷ ss) q = record {
     ahead = grind (arith, nat_tests, q);
     near = grind (arith, nat_tests, q);
@@ -34,10 +37,10 @@ module _ (a t e : ℕ) where
   kind_held : (n : ℕ) (k : Kind) (ms : List AcceptedMark) → phase_by n k a t ms ≡ Halted e → Held (λ (u : ℕ). phase_by n k a u ms) t e
   kind_held n Bid ms q = newest_held (watch_starts n Upper ms) q
   kind_held n Offered ms q = newest_held (watch_starts n Lower ms) q
-  kind_held n Clear ms q = let z : ◌≡◌ {A = ℕ} 0 1 = cc in absurd (omega arith)
+  kind_held n Clear ms q = not_open e q
 
 view_held : (n : ℕ) (ms : List AcceptedMark) (t e : ℕ) → phase_in n ms t ≡ Halted e → Held (λ (u : ℕ). phase_in n ms u) t e
-view_held n [] t e q = let z : ◌≡◌ {A = ℕ} 0 1 = cc in absurd (omega arith)
+view_held n [] t e q = not_open e q
 view_held n (m ∷ ms) t e q = kind_held m.time t e n m.kind (m ∷ ms) q
 
 till_open : (o : Option ℕ) → phase_till o ≡ Open → o ≡ None

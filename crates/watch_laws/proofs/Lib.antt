@@ -4,4 +4,3 @@ pub mod Rises
 pub mod Covering
 pub mod Played
 pub mod All
-pub mod Examples

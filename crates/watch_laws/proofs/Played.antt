@@ -1,12 +1,12 @@
 -- A day played mark by mark is what the marks read.
-use Rattle.std.proofs.Common.{◌≡◌, ℕ, ◌+◌, ◌<◌, ◌≤◌, Bool, true, false, ◌&&◌, leb, List, [], ◌∷◌, reverse, length, get_or, take, drop, Some, None, Option, sym, refl, ap, ◌∙◌, subst, add-one, arith, take_all, drop-cons}
+use Rattle.std.proofs.Common.{◌≡◌, ℕ, ◌+◌, ◌<◌, ◌≤◌, Bool, true, false, ◌&&◌, leb, List, [], ◌∷◌, reverse, length, get_or, take, drop, Some, None, Option, is_some, IfSome, sym, refl, ap, ◌∙◌, subst, add-one, arith, take_all, drop-cons}
 use Rattle.std.proofs.lemmas.List.{reverse-append, take_more, drop_all}
 use Rattle.std.proofs.lemmas.Bool.{and_parts, and_from, and_left, and_right, leb-true, cond-true, cond-false}
 use Rattle.watches.specs.declared.state.AcceptedMark.{AcceptedMark}
 use Rattle.watches.specs.declared.state.State.{State}
 use Rattle.watches.specs.Words.{last_moment, timely}
 use Rattle.watches.specs.Moving.{moved}
-use Rattle.watches.specs.Marking.{fresh, marked}
+use Rattle.watches.specs.Marking.{marked}
 use Rattle.watches.specs.Reading.{halt, phase_till, read, newest, Came}
 use Rattle.watch_laws.specs.Playing.{is_open, takes_at, after_mark, none, acceptable, all_acceptable, reading}
 use Rattle.watch_laws.proofs.Bridges.{reads}
@@ -103,9 +103,6 @@ pub record Done (n : ℕ) (d : State) (xs : List AcceptedMark) : Type 0 where
   pub is : d ≡ played n (reverse xs)
   pub all : all_acceptable n [] xs ≡ true
 
-pub begun : (n : ℕ) (xs : List AcceptedMark) → Sofar n fresh (reverse (take 0 xs)) (drop 0 xs) xs
-begun n xs = record { came = tt; is = refl; rest = refl }
-
 pub done : (n : ℕ) (d : State) (i : ℕ) (xs : List AcceptedMark) → length xs ≤ i → Sofar n d (reverse (take i xs)) (drop i xs) xs → Done n d xs
 done n d i xs h s =
     let a : take i xs ≡ xs = take_all i xs h in
@@ -120,3 +117,10 @@ pub moved_on : (n : ℕ) (d : State) (xs : List AcceptedMark) (t : ℕ) → Done
 moved_on n d xs t s q =
     ap (λ (y : State). moved y t) s.is ∙ cond-true _ _ _ q
     ∙ (reads n).moves (reverse xs) (newest (reverse xs)) t s.came (omega arith) (not_before _ _ q)
+
+-- what is made of the day after the last mark, where t is timely, is what the marks read at t
+pub read_on : (n : ℕ) (d : State) (xs : List AcceptedMark) (t : ℕ) → Done n d xs → (r : Option State) → is_some r ≡ timely d.clock t → (P : State → Type 0) → ((x : State) → P x → x ≡ moved d t) → IfSome r P → r ≡ reading n xs t
+read_on n d xs t s None e P f k = sym (not_timely n xs t (ap (λ (y : State). timely y.clock t) (sym s.is) ∙ sym e))
+read_on n d xs t s (Some x) e P f k =
+    let q : timely (newest (reverse xs)) t ≡ true = ap (λ (y : State). timely y.clock t) (sym s.is) ∙ sym e in
+    ap (λ (y : State). Some y) (f x k ∙ moved_on n d xs t s q) ∙ sym (all_and_timely n xs t s.all q)

@@ -1,7 +1,8 @@
 -- Going through the moments at which something ends.
-use Rattle.std.proofs.Common.{◌≡◌, ℕ, ◌+◌, ◌*◌, ◌<◌, ◌≤◌, true, cond, leb, Some, None, Option, sym, refl, ◌∙◌, subst, arith}
+use Rattle.std.proofs.Common.{◌≡◌, ℕ, ◌+◌, ◌*◌, ◌<◌, ◌≤◌, ◌⊎◌, min, true, cond, leb, Some, None, Option, sym, refl, ap, ◌∙◌, subst, inl, inr, arith}
 use Rattle.std.proofs.lemmas.Bool.Decides.{nat_tests}
-use Rattle.std.proofs.lemmas.Bool.{and_from, le-leb, cond-true}
+use Rattle.std.proofs.lemmas.Bool.{and_from, cases_lt, le-leb, leb-true, cond-true}
+use Rattle.std.proofs.lemmas.Option.{none-some, same_Some, cond_some}
 use Rattle.watches.specs.declared.state.Side.{Side}
 use Rattle.watches.specs.declared.state.Side.TheVariants.{Upper, Lower}
 use Rattle.watches.specs.declared.state.Watch.{Watch}
@@ -19,34 +20,26 @@ use Rattle.watches.proofs.Keeps.{Sound}
 abbrev first_of : Watch → Watch → Phase → Option ℕ
 first_of u l p = earlier (earlier (end_of u) (end_of l)) (halt_end p)
 
--- nothing ends before e
-abbrev none_ends : ℕ → Watch → Watch → Phase → Type 0
-none_ends e u l p = (e ≤ watch_end_or e u) × (e ≤ watch_end_or e l) × (e ≤ halt_end_or e p)
+before_both : (e : ℕ) (a b : Option ℕ) → none_before e (earlier a b) ≡ true → (none_before e a ≡ true) × (none_before e b ≡ true)
+before_both e None b q = (refl, q)
+before_both e (Some x) None q = (q, refl)
+before_both e (Some x) (Some y) q = (grind (arith, nat_tests, q), grind (arith, nat_tests, q))
 
-none_earlier : (e : ℕ) (u l : Watch) (p : Phase) → none_before e (first_of u l p) ≡ true → none_ends e u l p
-none_earlier e Idle Idle Open q = (omega arith, omega arith, omega arith)
-none_earlier e Idle Idle (Halted z) q = (omega arith, omega arith, grind (arith, nat_tests, q))
-none_earlier e Idle (Running y) Open q = (omega arith, grind (arith, nat_tests, q), omega arith)
-none_earlier e Idle (Running y) (Halted z) q = (omega arith, grind (arith, nat_tests, q), grind (arith, nat_tests, q))
-none_earlier e (Running x) Idle Open q = (grind (arith, nat_tests, q), omega arith, omega arith)
-none_earlier e (Running x) Idle (Halted z) q = (grind (arith, nat_tests, q), omega arith, grind (arith, nat_tests, q))
-none_earlier e (Running x) (Running y) Open q = (grind (arith, nat_tests, q), grind (arith, nat_tests, q), omega arith)
-none_earlier e (Running x) (Running y) (Halted z) q = (grind (arith, nat_tests, q), grind (arith, nat_tests, q), grind (arith, nat_tests, q))
+watched_after : (e : ℕ) (d : State) → none_before e (end_of d.upper.watch) ≡ true → none_before e (end_of d.lower.watch) ≡ true → (s : Option Side) → none_before e (end_of (watched d s)) ≡ true
+watched_after e d u l None = refl
+watched_after e d u l (Some Upper) = u
+watched_after e d u l (Some Lower) = l
 
-watched_earlier : (e : ℕ) (d : State) → none_ends e d.upper.watch d.lower.watch d.phase → (s : Option Side) → e ≤ watch_end_or e (watched d s)
-watched_earlier e d n None = omega arith
-watched_earlier e d n (Some Upper) = n.0
-watched_earlier e d n (Some Lower) = n.1
-
-phase_same : (e : ℕ) (w : Watch) (p : Phase) → e ≤ watch_end_or e w → cond (over e w) (Halted (e + span)) (reopened e p) ≡ phase_at e w p
-phase_same e Idle p n = refl
-phase_same e (Running x) p n = grind (arith, nat_tests)
+phase_same : (e : ℕ) (w : Watch) (p : Phase) → none_before e (end_of w) ≡ true → cond (over e w) (Halted (e + span)) (reopened e p) ≡ phase_at e w p
+phase_same e Idle p q = refl
+phase_same e (Running x) p q = grind (arith, nat_tests, q)
 
 -- where nothing ends before a moment, passing it is moving to it
 pub passes : (e : ℕ) (d : State) → none_before e (first_end d) ≡ true → passed e d ≡ advanced d e
 passes e d q =
-    let n = none_earlier e d.upper.watch d.lower.watch d.phase q in
-    let p = phase_same e (watched d d.standing) d.phase (watched_earlier e d n d.standing) in
+    let a = before_both e (earlier (end_of d.upper.watch) (end_of d.lower.watch)) (halt_end d.phase) q in
+    let b = before_both e (end_of d.upper.watch) (end_of d.lower.watch) a.0 in
+    let p = phase_same e (watched d d.standing) d.phase (watched_after e d b.0 b.1 d.standing) in
     cc
 
 abbrev pub halted : Phase → ℕ
@@ -82,23 +75,36 @@ watched_over e d None = omega arith
 watched_over e d (Some Upper) = omega arith
 watched_over e d (Some Lower) = omega arith
 
--- e is the first end, after the clock c and not after t, and something ends there
-record Hit (c t e : ℕ) (u l : Watch) (p : Phase) : Type 0 where
-  pub ahead : c < e
-  pub by : e ≤ t
-  pub some : 1 ≤ watch_over e u + watch_over e l + halt_over e p
-  pub first : none_before e (first_of u l p) ≡ true
+one_of : (e : ℕ) (a b : Option ℕ) → earlier a b ≡ Some e → (a ≡ Some e) ⊎ (b ≡ Some e)
+one_of e None b q = inr q
+one_of e (Some x) None q = inl q
+one_of e (Some x) (Some y) q =
+    let m = same_Some (min x y) e q in
+    elim (cases_lt x y) [ inl h ↦ inl (ap Some (omega arith)) | inr h ↦ inr (ap Some (omega arith)) ]
 
-module _ (c t e : ℕ) where
-  hit : (u l : Watch) (p : Phase) → c < watch_end_or (c + 1) u → c < watch_end_or (c + 1) l → c < halt_end_or (c + 1) p → up_to t (first_of u l p) ≡ Some e → Hit c t e u l p
-  hit Idle Idle Open a b h q = let z : ◌≡◌ {A = ℕ} 0 1 = cc in absurd (omega arith)
-  hit Idle Idle (Halted z) a b h q = record { ahead = grind (arith, nat_tests, q); by = grind (arith, nat_tests, q); some = grind (arith, nat_tests, q); first = grind (arith, nat_tests, q) }
-  hit Idle (Running y) Open a b h q = record { ahead = grind (arith, nat_tests, q); by = grind (arith, nat_tests, q); some = grind (arith, nat_tests, q); first = grind (arith, nat_tests, q) }
-  hit Idle (Running y) (Halted z) a b h q = record { ahead = grind (arith, nat_tests, q); by = grind (arith, nat_tests, q); some = grind (arith, nat_tests, q); first = grind (arith, nat_tests, q) }
-  hit (Running x) Idle Open a b h q = record { ahead = grind (arith, nat_tests, q); by = grind (arith, nat_tests, q); some = grind (arith, nat_tests, q); first = grind (arith, nat_tests, q) }
-  hit (Running x) Idle (Halted z) a b h q = record { ahead = grind (arith, nat_tests, q); by = grind (arith, nat_tests, q); some = grind (arith, nat_tests, q); first = grind (arith, nat_tests, q) }
-  hit (Running x) (Running y) Open a b h q = record { ahead = grind (arith, nat_tests, q); by = grind (arith, nat_tests, q); some = grind (arith, nat_tests, q); first = grind (arith, nat_tests, q) }
-  hit (Running x) (Running y) (Halted z) a b h q = record { ahead = grind (arith, nat_tests, q); by = grind (arith, nat_tests, q); some = grind (arith, nat_tests, q); first = grind (arith, nat_tests, q) }
+by_then : (t e : ℕ) (f : Option ℕ) → up_to t f ≡ Some e → (e ≤ t) × (f ≡ Some e)
+by_then t e None q = absurd (none-some e q)
+by_then t e (Some x) q = let k = cond_some (leb x t) x e q in let h = leb-true x t k.0 in let s = k.1 in (omega arith, ap Some s)
+
+-- the first end e lies after the clock c, and something ends there
+module _ (c e : ℕ) where
+  watch_hit : (w : Watch) → c < watch_end_or (c + 1) w → end_of w ≡ Some e → (c < e) × (1 ≤ watch_over e w)
+  watch_hit Idle h q = absurd (none-some e q)
+  watch_hit (Running x) h q = let s = same_Some x e q in (omega arith, grind (arith, nat_tests, s))
+
+  halt_hit : (p : Phase) → c < halt_end_or (c + 1) p → halt_end p ≡ Some e → (c < e) × (1 ≤ halt_over e p)
+  halt_hit Open h q = absurd (none-some e q)
+  halt_hit (Halted x) h q = let s = same_Some x e q in (omega arith, grind (arith, nat_tests, s))
+
+  hit : (u l : Watch) (p : Phase) → c < watch_end_or (c + 1) u → c < watch_end_or (c + 1) l → c < halt_end_or (c + 1) p → first_of u l p ≡ Some e
+      → (c < e) × (1 ≤ watch_over e u + watch_over e l + halt_over e p)
+  hit u l p a b h q = elim (one_of e (earlier (end_of u) (end_of l)) (halt_end p) q) [
+    | inl i ↦ elim (one_of e (end_of u) (end_of l) i) [
+      | inl j ↦ let z = watch_hit u a j in let o = z.1 in (z.0, omega arith)
+      | inr j ↦ let z = watch_hit l b j in let o = z.1 in (z.0, omega arith)
+    ]
+    | inr i ↦ let z = halt_hit p h i in let o = z.1 in (z.0, omega arith)
+  ]
 
 passed_less : (e : ℕ) (d : State) → 1 ≤ watch_over e d.upper.watch + watch_over e d.lower.watch + halt_over e d.phase → left (passed e d) < left d
 passed_less e d h =
@@ -118,17 +124,19 @@ pub record Turn (d : State) (t e : ℕ) : Type 0 where
 
 pub turn : (d : State) (t e : ℕ) → Sound d → t ≤ last_moment → end_by d t ≡ Some e → Turn d t e
 turn d t e s h q =
-    let f = hit d.clock t e d.upper.watch d.lower.watch d.phase s.1.0.2 s.1.1.0.2 s.1.1.1.0.0 q in
-    let a = f.ahead in
-    let b = f.by in
+    let k = by_then t e (first_end d) q in
+    let f : none_before e (first_end d) ≡ true = subst (λ (o : Option ℕ). none_before e o ≡ true) (sym k.1) (le-leb e e (omega arith)) in
+    let i = hit d.clock e d.upper.watch d.lower.watch d.phase s.1.0.2 s.1.1.0.2 s.1.1.1.0.0 k.1 in
+    let a = i.0 in
+    let b = k.0 in
     let c : d.clock ≤ e = omega arith in
-    let k : e ≤ last_moment = omega arith in
-    let is : pass_to e d ≡ passed e d = cond-true _ _ _ (and_from _ _ (and_from _ _ (le-leb _ _ c) (le-leb _ _ k)) f.first) in
+    let o : e ≤ last_moment = omega arith in
+    let is : pass_to e d ≡ passed e d = cond-true _ _ _ (and_from _ _ (and_from _ _ (le-leb _ _ c) (le-leb _ _ o)) f) in
     record {
-      passed_to = is ∙ passes e d f.first;
+      passed_to = is ∙ passes e d f;
       ahead = a;
       by = b;
-      less = subst (λ (x : State). left x < left d) (sym is) (passed_less e d f.some);
+      less = subst (λ (x : State). left x < left d) (sym is) (passed_less e d i.1);
     }
 
 none_by : (t : ℕ) (f : Option ℕ) → up_to t f ≡ None → none_before t f ≡ true

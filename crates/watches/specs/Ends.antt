@@ -19,6 +19,10 @@ abbrev pub halt_end : Phase → Option ℕ
 halt_end Open = None
 halt_end (Halted e) = Some e
 
+abbrev pub is_halted : Phase → Bool
+is_halted Open = false
+is_halted (Halted e) = true
+
 abbrev pub earlier : Option ℕ → Option ℕ → Option ℕ
 earlier (Some x) (Some y) = Some (min x y)
 earlier (Some x) None = Some x
@@ -50,9 +54,13 @@ abbrev pub reopened : ℕ → Phase → Phase
 reopened t Open = Open
 reopened t (Halted e) = cond (nat_le e t) Open (Halted e)
 
+-- A side's level and watch.
+abbrev pub band_of : State → Side → Band
+band_of d Upper = d.upper
+band_of d Lower = d.lower
+
 abbrev pub watch_of : State → Side → Watch
-watch_of d Upper = d.upper.watch
-watch_of d Lower = d.lower.watch
+watch_of d side = (band_of d side).watch
 
 -- The watch of the side whose mark stands.
 abbrev pub watched : State → Option Side → Watch

@@ -23,6 +23,11 @@ abbrev pub started : ℕ → ℕ → Band → Watch → Band
 started n t b Idle = cond (nat_lt b.level n) (record { level = b.level; watch = Running (t + span) }) b
 started n t b (Running e) = b
 
+-- The day with the band b on a side.
+abbrev pub with_band : State → Side → Band → State
+with_band d Upper b = record { clock = d.clock; upper = b; lower = d.lower; phase = d.phase; standing = d.standing }
+with_band d Lower b = record { clock = d.clock; upper = d.upper; lower = b; phase = d.phase; standing = d.standing }
+
 abbrev pub marked_on : ℕ → State → Option Side → State
 marked_on n d (Some Upper) = record {
   clock = d.clock;

@@ -1,9 +1,10 @@
 //! When watches and halts end.
 ghost use Rattle.std.specs.Prelude.{◌≡◌};
-ghost use Rattle.watches.specs.Ends.{end_of, halt_end, earlier, first_end};
+ghost use Rattle.watches.specs.Ends.{end_of, halt_end, is_halted, first_end};
 
 use crate::state::{Phase, State, Watch};
 
+// Kept: the two ends read alike, but of two enums that the project prescribes.
 impl Watch {
     /// The end of a watch that runs.
     pub fn end(self) -> Option<u32>
@@ -26,15 +27,11 @@ impl Phase {
             Phase::Halted { end } => Some(end),
         }
     }
-}
 
-fn earlier_of(a: Option<u32>, b: Option<u32>) -> Option<u32>
-    ensures { result ≡ earlier a b }
-{
-    match (a, b) {
-        (Some(x), Some(y)) => Some(x.min(y)),
-        (Some(x), None) => Some(x),
-        (None, y) => y,
+    pub fn is_halted(self) -> bool
+        ensures { result ≡ is_halted self }
+    {
+        self.end().is_some()
     }
 }
 
@@ -43,7 +40,13 @@ impl State {
     pub(crate) fn earliest_end(self) -> Option<u32>
         ensures { result ≡ first_end self }
     {
-        let watches = earlier_of(self.upper.watch.end(), self.lower.watch.end());
-        earlier_of(watches, self.phase.end())
+        [
+            self.upper.watch.end(),
+            self.lower.watch.end(),
+            self.phase.end(),
+        ]
+        .into_iter()
+        .flatten()
+        .min()
     }
 }

@@ -10,7 +10,7 @@ mod start;
 use crate::state::State;
 
 /// The state of a day in which all that runs has its end after the clock, at most a span ahead.
-#[derive(Clone, Copy)]
+#[derive(Clone, Copy, Debug, PartialEq, Eq)]
 pub struct Watches {
     state: State,
     ghost within: { state.clock ≤ last_moment },

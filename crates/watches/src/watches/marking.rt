@@ -1,5 +1,5 @@
 ghost use Rattle.std.specs.Prelude.{◌≡◌, ◌≤◌};
-ghost use Rattle.watches.specs.Marking.{started, marked};
+ghost use Rattle.watches.specs.Marking.{started, with_band, marked};
 ghost use Rattle.watches.specs.Words.{last_moment, side_of};
 
 use super::Watches;
@@ -25,8 +25,8 @@ impl Band {
     {
         match self.watch {
             Watch::Idle if self.level < levels => Band {
-                level: self.level,
                 watch: Watch::Running { end: moment + SPAN },
+                ..self
             },
             _ => self,
         }
@@ -34,27 +34,40 @@ impl Band {
 }
 
 impl State {
-    /// The day with an accepted mark at its clock.
-    fn with_mark(self, kind: Kind, levels: u8) -> State
-        requires { self.clock ≤ last_moment }
-        ensures { result ≡ marked levels self kind }
+    /// The day with another band on one side.
+    fn with_band(self, side: Side, band: Band) -> State
+        ensures { result ≡ with_band self side band }
     {
-        let mut day = self;
-        day.standing = kind.side();
-        match day.standing {
-            Some(Side::Upper) => day.upper = self.upper.watched_from(self.clock, levels),
-            Some(Side::Lower) => day.lower = self.lower.watched_from(self.clock, levels),
-            None => {}
+        match side {
+            Side::Upper => State {
+                upper: band,
+                ..self
+            },
+            Side::Lower => State {
+                lower: band,
+                ..self
+            },
         }
-        day
     }
 }
 
 impl Watches {
+    /// The day with an accepted mark at its clock.
+    fn with_mark(&self, kind: Kind, levels: u8) -> State
+        ensures { result ≡ marked levels self.now.state kind }
+    {
+        let state = self.state;
+        let standing = kind.side();
+        let day = standing.map_or(state, |side| {
+            state.with_band(side, state.band(side).watched_from(state.clock, levels))
+        });
+        State { standing, ..day }
+    }
+
     /// Takes a mark at the clock, where there are so many levels. That it is accepted is the caller's to say.
     pub fn mark(&mut self, kind: Kind, levels: u8)
         ensures { self.new.state ≡ marked levels self.old.state kind }
     {
-        self.state = self.state.with_mark(kind, levels);
+        self.state = self.with_mark(kind, levels);
     }
 }

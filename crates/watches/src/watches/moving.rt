@@ -12,27 +12,21 @@ impl Watches {
     pub fn is_timely(&self, time: u32) -> bool
         ensures { result ≡ timely self.now.state.clock time }
     {
-        self.state.clock <= time && time <= LAST
+        (self.state.clock..=LAST).contains(&time)
     }
 
     /// The first moment up to `time` at which something ends.
     pub fn end_by(&self, time: u32) -> Option<u32>
         ensures { result ≡ end_by self.now.state time }
     {
-        match self.state.earliest_end() {
-            Some(end) if end <= time => Some(end),
-            _ => None,
-        }
+        self.state.earliest_end().filter(|end| *end <= time)
     }
 
     /// Whether a moment is timely and nothing ends before it.
     fn is_next(&self, moment: u32) -> bool
         ensures { result ≡ passable moment self.now.state }
     {
-        match self.state.earliest_end() {
-            Some(end) if end < moment => false,
-            _ => self.is_timely(moment),
-        }
+        self.is_timely(moment) && self.state.earliest_end().is_none_or(|end| moment <= end)
     }
 
     /// Moves to one moment, with all that ends there. A moment that is not timely, or before which something ends,
@@ -42,7 +36,7 @@ impl Watches {
         ensures moves { PassMoves self.old.state moment }
     {
         if self.is_next(moment) {
-            self.state = self.state.at_moment(moment);
+            self.state = self.at_moment(moment);
         }
     }
 

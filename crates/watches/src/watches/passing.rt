@@ -3,16 +3,14 @@ ghost use Rattle.watches.specs.Ends.{over, risen, reopened, watched, passed};
 ghost use Rattle.watches.specs.Sound.{runs};
 ghost use Rattle.watches.specs.Words.{last_moment};
 
-use crate::state::{Band, Phase, SPAN, Side, State, Watch};
+use super::Watches;
+use crate::state::{Band, Phase, SPAN, State, Watch};
 
 impl Watch {
     fn is_over(self, moment: u32) -> bool
         ensures { result ≡ over moment self }
     {
-        match self {
-            Watch::Idle => false,
-            Watch::Running { end } => end <= moment,
-        }
+        self.end().is_some_and(|end| end <= moment)
     }
 }
 
@@ -36,9 +34,10 @@ impl Phase {
     fn resumed(self, moment: u32) -> Phase
         ensures { result ≡ reopened moment self }
     {
-        match self {
-            Phase::Halted { end } if moment < end => self,
-            _ => Phase::Open,
+        if self.end().is_some_and(|end| moment < end) {
+            self
+        } else {
+            Phase::Open
         }
     }
 }
@@ -48,28 +47,26 @@ impl State {
     fn watch_of_mark(self) -> Watch
         ensures { result ≡ watched self self.standing }
     {
-        match self.standing {
-            Some(Side::Upper) => self.upper.watch,
-            Some(Side::Lower) => self.lower.watch,
-            None => Watch::Idle,
-        }
+        self.standing
+            .map_or(Watch::Idle, |side| self.band(side).watch)
     }
+}
 
+impl Watches {
     /// The day at a moment before which nothing ends, with all that ends there.
-    pub(super) fn at_moment(self, moment: u32) -> State
-        requires watch_bound { self.upper.level + runs self.upper.watch ≤ 255 }
-        requires watch_bound_2 { self.lower.level + runs self.lower.watch ≤ 255 }
-        requires moment_le_last_moment { moment ≤ last_moment }
-        ensures { result ≡ passed moment self }
+    pub(super) fn at_moment(&self, moment: u32) -> State
+        requires { moment ≤ last_moment }
+        ensures { result ≡ passed moment self.now.state }
     {
+        let state = self.state;
         let mut day = State {
             clock: moment,
-            upper: self.upper.raised(moment),
-            lower: self.lower.raised(moment),
-            phase: self.phase.resumed(moment),
-            standing: self.standing,
+            upper: state.upper.raised(moment),
+            lower: state.lower.raised(moment),
+            phase: state.phase.resumed(moment),
+            standing: state.standing,
         };
-        if self.watch_of_mark().is_over(moment) {
+        if state.watch_of_mark().is_over(moment) {
             day.phase = Phase::Halted { end: moment + SPAN };
             day.standing = None;
         }

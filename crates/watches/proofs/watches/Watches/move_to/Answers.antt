@@ -32,8 +32,8 @@ loop-moment-preserved c =
     let b = t.by in
     (omega arith, ap (λ (x : State). advanced x c.args.time) to ∙ twice d c.args.time c.in-Some.moment b ∙ c.loop-moment.invariant.1)
 
-pub returns : goal.returns
-returns c =
+pub returns-clause-state : goal.returns-clause-state
+returns-clause-state c =
     let s = c.args.self.now.state in
     let t = c.args.time in
     let d = c.loop-moment.self.state in
@@ -43,11 +43,16 @@ returns c =
     rest d t c.loop-moment.invariant.0 (of_the_day s.clock t e) none_left
     ∙ c.loop-moment.invariant.1
     ∙ sym (cond-true (timely s.clock t) (advanced s t) s e) in
-    record { state = cc; order = in_order s t; twice = twice s t }
+    cc
 
-pub returns-then-not-is_timely : goal.returns-then-not-is_timely
-returns-then-not-is_timely c = record {
-  state = search rules;
-  order = in_order c.args.self.now.state c.args.time;
-  twice = twice c.args.self.now.state c.args.time;
-}
+pub returns-clause-order : goal.returns-clause-order
+returns-clause-order c = in_order _ _
+
+pub returns-clause-twice : goal.returns-clause-twice
+returns-clause-twice c = twice c.args.self.now.state c.args.time
+
+pub returns-then-not-is_timely-clause-order : goal.returns-then-not-is_timely-clause-order
+returns-then-not-is_timely-clause-order c = in_order _ _
+
+pub returns-then-not-is_timely-clause-twice : goal.returns-then-not-is_timely-clause-twice
+returns-then-not-is_timely-clause-twice c = twice c.args.self.now.state c.args.time
