@@ -1,6 +1,5 @@
-pub mod Forms
-pub mod HexPairs
+pub mod Cuts
 pub mod Numerals
 pub mod PriceParts
-pub mod Printing
+pub mod Reading
 pub mod RefusalParts

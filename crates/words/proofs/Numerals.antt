@@ -1,7 +1,7 @@
 -- Whole numbers in decimal digits: what `parse` reads where there is no plus.
-use Rattle.std.proofs.Common.{◌≡◌, ℕ, ◌^◌, ◌<◌, ◌≤◌, Bool, true, false, List, length, get_or, Ok, Err, Decides, Result, arith, rules}
+use Rattle.std.proofs.Common.{◌≡◌, ℕ, ◌^◌, ◌<◌, ◌≤◌, true, List, length, get_or, Ok, Err, Result, arith, rules}
 use Rattle.std.proofs.lemmas.Str.Parse.{IsNumeralModel, numerals_by_fold, tells_all_ascii_digits, parse_plain, digits_value_short}
-use Rattle.std.proofs.lemmas.Bool.Decides.{nat_tests, not_from_Decides}
+use Rattle.std.proofs.lemmas.Bool.Decides.{nat_tests}
 use Rattle.std.specs.Result.{OkIff, result_ok}
 use Rattle.std.specs.Str.Parse.{ParsesUnsigned}
 use Rattle.std.specs.Str.{all_ascii_digits}
@@ -16,10 +16,6 @@ converted limit bs (Err e) h = grind (arith, nat_tests)
 
 pub reads : {E : Type 0} (k : ℕ) (bs : List ℕ) (r : Result ℕ E) → ParsesUnsigned k 10 bs r → (get_or bs 0 0 ≡ 43 → ⊥) → result_ok r ≡ number_below (2 ^ k) bs
 reads k bs r h plain = converted (2 ^ k) bs r (parse_plain own k bs r h plain)
-
--- a word that does not start with a plus has none in front
-pub plain : (word : List ℕ) (r : Bool) → Decides r (get_or word 0 0 ≡ 43) → r ≡ false → get_or word 0 0 ≡ 43 → ⊥
-plain word r d left = not_from_Decides r d left
 
 -- a numeral of at most two digits is below a hundred
 pub short : (ds : List ℕ) → all_ascii_digits ds ≡ true → length ds ≤ 2 → value_after 0 ds < 100

@@ -1,41 +1,17 @@
 -- A price's text, split at its point.
-use Rattle.std.proofs.Common.{◌≡◌, ℕ, suc, ◌^◌, ◌<◌, false, eqb, List, [], ◌∷◌, ◌++◌, length, get_or, Some, None, Option, sym, refl, ap, ◌∙◌, arith}
-use Rattle.std.proofs.lemmas.Bool.{ne_eqb, eq-eqb}
+use Rattle.std.proofs.Common.{◌≡◌, ℕ, ◌/◌, ◌%◌, ◌-◌, ◌^◌, ◌<◌, false, List, [], ◌++◌, length, Some, None, codes, decimal, Option, Bor, ap, sym, ◌∙◌, inl, inr, arith}
+use Rattle.std.proofs.lemmas.Bool.{cases_lt}
 use Rattle.std.proofs.lemmas.Bool.Decides.{nat_tests}
+use Rattle.std.proofs.lemmas.Fmt.{decimal_digit, decimal_step}
+use Rattle.std.proofs.lemmas.Str.Pattern.{IsSplitOnceResult}
+use Rattle.std.specs.Fmt.{char_count, format_spec, padded_integral}
+use Rattle.std.specs.Option.{unwrap_or}
 use Rattle.words.specs.Numeral.{number, number_below}
-use Rattle.words.specs.Cuts.{before, after}
 use Rattle.words.specs.PriceText.{decimals, hundredths, price_of, read_price}
+use Rattle.words.proofs.Cuts.{cut}
 use Rattle.words.proofs.Numerals.{short}
 
-abbrev pub Lacks : ℕ → List ℕ → Type 0
-Lacks c xs = (i : ℕ) → i < length xs → get_or xs i 0 ≡ c → ⊥
-
-pub before_split : (c : ℕ) (xs ys : List ℕ) → Lacks c xs → before c (xs ++ (c ∷ ys)) ≡ xs
-before_split c [] ys h = rw (eq-eqb c c refl)
-before_split c (x ∷ xs) ys h =
-    let apart : eqb x c ≡ false = ne_eqb x c (h 0 (omega arith)) in
-    rw (apart, before_split c xs ys (λ i l. h (suc i) (omega arith)))
-
-pub after_split : (c : ℕ) (xs ys : List ℕ) → Lacks c xs → after c (xs ++ (c ∷ ys)) ≡ Some ys
-after_split c [] ys h = rw (eq-eqb c c refl)
-after_split c (x ∷ xs) ys h =
-    let apart : eqb x c ≡ false = ne_eqb x c (h 0 (omega arith)) in
-    rw apart (after_split c xs ys (λ i l. h (suc i) (omega arith)))
-
-pub before_whole : (c : ℕ) (xs : List ℕ) → Lacks c xs → before c xs ≡ xs
-before_whole c [] h = refl
-before_whole c (x ∷ xs) h =
-    let apart : eqb x c ≡ false = ne_eqb x c (h 0 (omega arith)) in
-    rw (apart, before_whole c xs (λ i l. h (suc i) (omega arith)))
-
-pub after_whole : (c : ℕ) (xs : List ℕ) → Lacks c xs → after c xs ≡ None
-after_whole c [] h = refl
-after_whole c (x ∷ xs) h =
-    let apart : eqb x c ≡ false = ne_eqb x c (h 0 (omega arith)) in
-    rw apart (after_whole c xs (λ i l. h (suc i) (omega arith)))
-
--- points past 32 bits make no price
-pub capped : (points : List ℕ) (h : Option ℕ) → price_of (number_below (2 ^ 32) points) h ≡ price_of (number points) h
+capped : (points : List ℕ) (h : Option ℕ) → price_of (number points) h ≡ price_of (number_below (2 ^ 32) points) h
 capped points None = grind (arith, nat_tests)
 capped points (Some h) = grind (arith, nat_tests)
 
@@ -46,15 +22,31 @@ two_digits ds e = grind (arith, nat_tests, short ds)
 pub one_digit : (ds : List ℕ) (n : ℕ) → number_below (2 ^ 32) ds ≡ Some n → length ds ≡ 1 → n < 100
 one_digit ds n e one = grind (arith, nat_tests, short ds)
 
--- a word with a point, and one with none
-pub pointed : (word xs ys : List ℕ) (p h r : Option ℕ) → word ≡ xs ++ (46 ∷ ys) → Lacks 46 xs → p ≡ number_below (2 ^ 32) xs → h ≡ decimals ys → r ≡ price_of p h → r ≡ read_price word
-pointed word xs ys p h r e apart ep eh er =
-    let b : before 46 word ≡ xs = ap (before 46) e ∙ before_split 46 xs ys apart in
-    let a : after 46 word ≡ Some ys = ap (after 46) e ∙ after_split 46 xs ys apart in
-    er ∙ (λ i. price_of (ep i) (eh i)) ∙ capped xs (decimals ys) ∙ sym (λ i. price_of (number (b i)) (hundredths (a i)))
+-- what stands before the point and after it, and where there is none, the word and a 0
+pub in_parts : (word : List ℕ) (r : Option (Bor (List ℕ) × Bor (List ℕ))) (p d : Bor (List ℕ) × Bor (List ℕ)) → IsSplitOnceResult 46 word r → p ≡ unwrap_or r d → d.0.now ≡ word → d.1.now ≡ codes "0" → read_price word ≡ price_of (number_below (2 ^ 32) p.0.now) (decimals p.1.now)
+in_parts word None p d h e points zero =
+    let parts = cut 46 word None h (omega arith) in
+    (λ i. price_of (number (parts.0 i)) (hundredths (parts.1 i))) ∙ capped word (Some 0)
+    ∙ (λ i. price_of (number_below (2 ^ 32) (points-is i)) (decimals (zero-is i)))
+  where
+    points-is : word ≡ p.0.now
+    points-is = sym points ∙ sym (ap (λ (x : Bor (List ℕ) × Bor (List ℕ)). x.0.now) e)
 
-pub unpointed : (word : List ℕ) (p r : Option ℕ) → Lacks 46 word → p ≡ number_below (2 ^ 32) word → r ≡ price_of p (Some 0) → r ≡ read_price word
-unpointed word p r apart ep er =
-    let b : before 46 word ≡ word = before_whole 46 word apart in
-    let a : after 46 word ≡ None = after_whole 46 word apart in
-    er ∙ (λ i. price_of (ep i) (Some 0)) ∙ capped word (Some 0) ∙ sym (λ i. price_of (number (b i)) (hundredths (a i)))
+    zero-is : codes "0" ≡ p.1.now
+    zero-is = sym zero ∙ sym (ap (λ (x : Bor (List ℕ) × Bor (List ℕ)). x.1.now) e)
+in_parts word (Some x) p d h e points zero =
+    let parts = cut 46 word (Some x) h (omega arith) in
+    (λ i. price_of (number (parts.0 i)) (hundredths (parts.1 i))) ∙ capped x.0.now (decimals x.1.now)
+    ∙ ap (λ (y : Bor (List ℕ) × Bor (List ℕ)). price_of (number_below (2 ^ 32) y.0.now) (decimals y.1.now)) (sym e)
+
+-- what `{:02}` writes of a number below a hundred
+pub two_decimals : (n : ℕ) → n < 100 → padded_integral (format_spec 32 0 4 2 (2 ^ 64 - 1)) false [] (decimal n) ≡ decimal (n / 10) ++ decimal (n % 10)
+unfolding padded_integral char_count
+two_decimals n small =
+    elim (cases_lt n 10) [
+      | inl one ↦
+          let high : n / 10 ≡ 0 = omega arith in
+          let low : n % 10 ≡ n = omega arith in
+          rw (high, low, decimal_digit 0 (omega arith), decimal_digit n one)
+      | inr two ↦ rw (decimal_step n two (omega arith), decimal_digit (n / 10) (omega arith), decimal_digit (n % 10) (omega arith))
+    ]

@@ -1,6 +1,9 @@
 pub mod Cuts
+pub mod Forms
+pub mod HexForms
 pub mod HexText
 pub mod Numeral
 pub mod PriceText
 pub mod RefusalText
+pub mod SymbolForms
 pub mod SymbolText

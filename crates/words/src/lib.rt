@@ -1,6 +1,7 @@
 // How the words of a script read and print: numbers, prices, symbols, bytes and refusals.
 #![tactic(auto)]
 
+mod forms;
 mod hex;
 mod numbers;
 mod prices;

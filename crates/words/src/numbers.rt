@@ -12,12 +12,9 @@ pub(crate) fn read_numeral(word: &str) -> Option<u64>
     word.parse::<u64>().ok()
 }
 
-// A time, a volume or a place: digits alone, at most 2^32 - 1.
+// A number of 32 bits: digits alone.
 pub fn read_number(word: &str) -> Option<u32>
     ensures { result ≡ number_below (2 ^ 32) word.now }
 {
-    match read_numeral(word) {
-        Some(number) if number <= 0xffff_ffff => Some(number as u32),
-        _ => None,
-    }
+    u32::try_from(read_numeral(word)?).ok()
 }

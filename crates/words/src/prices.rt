@@ -9,21 +9,21 @@ use std::fmt;
 use std::str::FromStr;
 
 // A number of hundredths. Displayed with two decimals, and read with none, one or two.
-#[derive(Clone, Copy)]
+#[derive(Clone, Copy, Debug, PartialEq, Eq)]
 pub struct Price(pub u32);
 
 // The word writes no price, or one past 32 bits.
-#[derive(Clone, Copy)]
+#[derive(Clone, Copy, Debug, PartialEq, Eq)]
 pub struct NotPrice;
 
 impl fmt::Display for Price {
     ghost output = { λ p. Some (price_text p.0) };
 
+    #[tactic(auto, using(crate::proofs::PriceParts::two_decimals))]
     fn fmt<W: fmt::Write>(&self, f: &mut fmt::Formatter<W>) -> fmt::Result {
         let points = self.0 / 100;
-        let tenths = self.0 / 10 % 10;
-        let hundredths = self.0 % 10;
-        write!(f, "{points}.{tenths}{hundredths}")
+        let hundredths = self.0 % 100;
+        write!(f, "{points}.{hundredths:02}")
     }
 }
 
@@ -33,38 +33,27 @@ impl FromStr for Price {
     ghost from_str_gives = { λ word r. option_map (λ p. p.0) (result_ok r) ≡ read_price word };
 
     fn from_str(word: &str) -> Result<Price, NotPrice> {
-        match read_price(word) {
-            Some(price) => Ok(Price(price)),
-            None => Err(NotPrice),
-        }
+        read_price(word).map(Price).ok_or(NotPrice)
     }
 }
 
 fn read_price(word: &str) -> Option<u32>
     ensures { result ≡ read_price word.now }
 {
-    match word.split_once('.') {
-        Some((points, rest)) => price_of(read_number(points), read_decimals(rest)),
-        None => price_of(read_number(word), Some(0)),
-    }
+    let (points, decimals) = word.split_once('.').unwrap_or((word, "0"));
+    read_number(points)?
+        .checked_mul(100)?
+        .checked_add(read_decimals(decimals)?)
 }
 
 // One or two decimals, in hundredths.
 fn read_decimals(digits: &str) -> Option<u32>
     ensures { result ≡ decimals digits.now }
 {
-    let Some(number) = read_number(digits) else {
-        return None;
-    };
+    let number = read_number(digits)?;
     match digits.len() {
         1 => Some(number * 10),
         2 => Some(number),
         _ => None,
     }
-}
-
-fn price_of(points: Option<u32>, hundredths: Option<u32>) -> Option<u32>
-    ensures { result ≡ price_of points hundredths }
-{
-    points?.checked_mul(100)?.checked_add(hundredths?)
 }

@@ -2,22 +2,24 @@
 use Rattle.std.proofs.Common.{◌≡◌, ℕ, suc, ◌+◌, ◌*◌, ◌/◌, ◌%◌, ◌^◌, ◌<◌, ◌≤◌, Bool, true, false, cond, eqb, List, [], ◌∷◌, ◌++◌, length, get_or, Some, None, codes, decimal, Option, sym, refl, ap, ◌∙◌, append-nil, arith, length-append, rules}
 use Rattle.std.proofs.lemmas.Fmt.{decimal_digit, decimal_nonempty, digits_decimal, digits_value-decimal}
 use Rattle.std.proofs.lemmas.Str.Parse.{not_in_digits}
-use Rattle.std.proofs.lemmas.Bool.{eqb-true, eqb-false}
+use Rattle.std.proofs.lemmas.Bool.{eqb-true, eqb-false, ne_eqb, true≢false}
 use Rattle.std.proofs.lemmas.Bool.Decides.{nat_tests}
 use Rattle.std.specs.Option.{option_map}
 use Rattle.words.specs.declared.prices.Price.{Price}
 use Rattle.words.specs.declared.refusals.Refusal.{Refusal}
 use Rattle.std.specs.List.{flat_map, AllByRecursion}
 use Rattle.std.specs.Str.{all_ascii_digits}
+use Rattle.words.specs.Forms.{ReadsByForms, first_pair}
+use Rattle.words.specs.HexForms.{pairs_by_forms}
 use Rattle.words.specs.HexText.{hex_byte, hex_digit, hex_value, onto, pair_text, pairs}
 use Rattle.words_laws.specs.Laws.{PricesReread, SymbolsReread, BytesReread, RefusalsReread}
 use Rattle.words.specs.Numeral.{value_after, number, number_below}
 use Rattle.words.specs.PriceText.{decimals, hundredths, price_of}
 use Rattle.words.specs.RefusalText.{place_of, both, refusal_text}
 use Rattle.words.specs.SymbolText.{is_plain, form, before_rest, first_form, all_forms, read_symbol}
-use Rattle.words.proofs.Forms.{step, no_dash}
+use Rattle.words.specs.SymbolForms.{symbols_by_forms}
 use Rattle.words.proofs.Numerals.{own}
-use Rattle.words.proofs.PriceParts.{Lacks, before_split, after_split, before_whole, after_whole}
+use Rattle.words.proofs.Cuts.{Lacks, before_split, after_split, before_whole, after_whole}
 use Rattle.words.proofs.RefusalParts.{after_front}
 
 -- decimals
@@ -77,9 +79,15 @@ pair_back b low =
     let is : b / 16 * 16 + b % 16 ≡ b = omega arith in
     (λ i. hex_byte (digit_back (b / 16) (omega arith) i) (digit_back (b % 16) (omega arith) i)) ∙ ap (λ (n : ℕ). Some n) is
 
+-- where the text of a byte, before any other text, reads as that byte, the text of many reads as them
+rows_back : (form : ℕ → List ℕ) (first : List ℕ → Option (ℕ × List ℕ)) (all : List ℕ → Option (List ℕ)) → ReadsByForms first all → all [] ≡ Some [] → ((b : ℕ) → b < 256 → (rest : List ℕ) → first (form b ++ rest) ≡ Some (b, rest)) → (bs : List ℕ) → AllByRecursion (λ b. b < 256) bs → all (flat_map form bs) ≡ Some bs
+rows_back form first all reads none back [] fit = none
+rows_back form first all reads none back (b ∷ bs) fit =
+    let law = rw (back b fit.0 (flat_map form bs)) at (reads (form b ++ flat_map form bs)) in
+    law.1 ∙ ap (onto (Some b)) (rows_back form first all reads none back bs fit.1)
+
 pairs_back : (bs : List ℕ) → AllByRecursion (λ b. b < 256) bs → pairs (flat_map pair_text bs) ≡ Some bs
-pairs_back [] fit = refl
-pairs_back (b ∷ bs) fit = (λ i. onto (pair_back b fit.0 i) (pairs_back bs fit.1 i))
+pairs_back = rows_back pair_text first_pair pairs pairs_by_forms refl (λ b low rest. ap (λ (o : Option ℕ). before_rest o rest) (pair_back b low))
 
 pub bytes : BytesReread
 bytes [] fit = refl
@@ -94,10 +102,13 @@ form_back b low rest true e = rw (e, plain_apart b e)
 form_back b low rest false e = ap (λ (o : Option ℕ). before_rest o rest) (pair_back b low)
 
 forms_back : (bs : List ℕ) → AllByRecursion (λ b. b < 256) bs → all_forms (flat_map form bs) ≡ Some bs
-forms_back [] fit = refl
-forms_back (b ∷ bs) fit =
-    step (flat_map form (b ∷ bs)) b (flat_map form bs) (form_back b fit.0 (flat_map form bs) (is_plain b) refl)
-    ∙ ap (onto (Some b)) (forms_back bs fit.1)
+forms_back = rows_back form first_form all_forms symbols_by_forms refl (λ b low rest. form_back b low rest (is_plain b) refl)
+
+no_dash : (word : List ℕ) → false ≡ eqb (length word) 0 → (word ≡ 45 ∷ [] → ⊥) → all_forms word ≡ read_symbol word
+no_dash [] some dash = absurd (true≢false (sym some))
+no_dash (c ∷ []) some dash =
+    let apart : eqb c 45 ≡ false = ne_eqb c 45 (λ e. dash (ap (λ (x : ℕ). x ∷ []) e)) in rw apart
+no_dash (c ∷ d ∷ cs) some dash = refl
 
 form_some : (b : ℕ) (t : Bool) → 1 ≤ length (cond t (b ∷ []) (92 ∷ 120 ∷ pair_text b))
 form_some b true = omega arith

@@ -1,14 +1,17 @@
-use Rattle.std.proofs.Common.{ap, ◌∙◌, rules}
+use Rattle.std.proofs.Common.{◌≡◌, ◌∙◌, vec_items, rules}
 use Rattle.std.proofs.lemmas.Result.{IfOk-weaker}
-use Rattle.words.specs.HexText.{read_bytes}
-use Rattle.words_laws.proofs.RoundTrips.{bytes, all_bytes}
+use Rattle.std.specs.Option.{option_map}
+use Rattle.words.specs.HexText.{bytes_text, read_bytes}
+use Rattle.words_laws.proofs.RoundTrips.{all_bytes, bytes}
 use Rattle.words_laws.proofs.reread_bytes.Goals as goal
 
-pub returns-in_err-text : goal.returns-in_err-text
-returns-in_err-text c = record { same = search rules; law = bytes }
+pub returns-clause-same : goal.returns-clause-same
+returns-clause-same c =
+    IfOk-weaker c.reread.result _ _
+    (λ o read.
+    let back : option_map vec_items o ≡ read_bytes (bytes_text c.args.bytes.now) = search rules in
+    back ∙ bytes c.args.bytes.now (all_bytes c.args.bytes.now (λ i. (c.type_inv.bytes i).fits)))
+    c.reread.ensures
 
-pub returns : goal.returns
-returns c =
-    let printed = c.as_str.ensures.value ∙ c.in_ok-text.ensures.ok in
-    let back = ap read_bytes printed ∙ bytes c.args.bytes.now (all_bytes c.args.bytes.now (λ i. (c.type_inv.bytes i).fits)) in
-    record { same = IfOk-weaker c.read_bytes.result _ _ (λ o e. e ∙ back) c.read_bytes.ensures; law = bytes }
+pub returns-clause-law : goal.returns-clause-law
+returns-clause-law c = bytes

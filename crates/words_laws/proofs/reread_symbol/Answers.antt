@@ -1,14 +1,17 @@
-use Rattle.std.proofs.Common.{ap, ◌∙◌, rules}
+use Rattle.std.proofs.Common.{◌≡◌, ◌∙◌, vec_items, rules}
 use Rattle.std.proofs.lemmas.Result.{IfOk-weaker}
-use Rattle.words.specs.SymbolText.{read_symbol}
-use Rattle.words_laws.proofs.RoundTrips.{symbols, all_bytes}
+use Rattle.std.specs.Option.{option_map}
+use Rattle.words.specs.SymbolText.{symbol_text, read_symbol}
+use Rattle.words_laws.proofs.RoundTrips.{all_bytes, symbols}
 use Rattle.words_laws.proofs.reread_symbol.Goals as goal
 
-pub returns-in_err-text : goal.returns-in_err-text
-returns-in_err-text c = record { same = search rules; law = symbols }
+pub returns-clause-same : goal.returns-clause-same
+returns-clause-same c =
+    IfOk-weaker c.reread.result _ _
+    (λ o read.
+    let back : option_map vec_items o ≡ read_symbol (symbol_text c.args.symbol.now) = search rules in
+    back ∙ symbols c.args.symbol.now (all_bytes c.args.symbol.now (λ i. (c.type_inv.symbol i).fits)))
+    c.reread.ensures
 
-pub returns : goal.returns
-returns c =
-    let printed = c.as_str.ensures.value ∙ c.in_ok-text.ensures.ok in
-    let back = ap read_symbol printed ∙ symbols c.args.symbol.now (all_bytes c.args.symbol.now (λ i. (c.type_inv.symbol i).fits)) in
-    record { same = IfOk-weaker c.read_symbol.result _ _ (λ o e. e ∙ back) c.read_symbol.ensures; law = symbols }
+pub returns-clause-law : goal.returns-clause-law
+returns-clause-law c = symbols
