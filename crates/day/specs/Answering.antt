@@ -123,7 +123,7 @@ module _ (m : Meaning) (p : ℕ) where
   future_answer d t c q ms = answered (future_formed c q) d.clock t (month_answer (advanced d t) (month_in c ms) q)
 
   abbrev pub option_answer : State → ℕ → OptionOrder → List OptionSeries → List FuturesMonth → Result (Unit {0}) ℕ
-  option_answer d t o ss ms = answered (option_formed o) d.clock t (series_answer (advanced d t) (series_in o ss) (underlying_in o.code ms))
+  option_answer d t o ss ms = answered (option_formed o) d.clock t (series_answer (advanced d t) (series_in o ss) (underlying_in o.contract.code ms))
 
 abbrev pub future_after : State → ℕ → MonthCode → ℕ → State
 future_after d t c q = acted (future_formed c q) d t (advanced d t)

@@ -32,7 +32,7 @@ option_tick = points 1
 
 -- The series that an order is in; the flag is no part of it.
 abbrev pub ordered : OptionOrder → OptionSeries
-ordered o = record { code = o.code; strike = o.strike; right = o.right; last_day = false }
+ordered o = record { contract = o.contract; last_day = false }
 
 -- The code, the strike and the price of an option order.
 abbrev pub option_formed : OptionOrder → Bool

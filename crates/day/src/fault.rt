@@ -2,37 +2,35 @@ ghost use Rattle.std.specs.Prelude.{◌≡◌};
 ghost use Rattle.day.specs.Codes.{open_number, number};
 
 /// Why a day did not open.
-#[derive(Clone, Copy)]
+#[derive(Clone, Copy, Debug, PartialEq, Eq)]
 pub enum OpenFault {
     /// The rule does not take the rounded price.
-    NotTaken,
+    NotTaken = 10,
 }
 
 /// Why a call on a day was refused.
-#[derive(Clone, Copy)]
+#[derive(Clone, Copy, Debug, PartialEq, Eq)]
 pub enum Refusal {
     /// A time behind the clock, or past the day.
-    Time,
+    Time = 20,
     /// A price, mark, code or strike that is malformed.
-    Malformed,
-    NotListed,
-    Halted,
-    OutsideLimits,
+    Malformed = 21,
+    NotListed = 22,
+    Halted = 23,
+    OutsideLimits = 24,
     /// An option that the standing mark stands against.
-    OptionStopped,
+    OptionStopped = 25,
     /// A mark whose price is not its side's edge.
-    OffEdge,
+    OffEdge = 26,
     /// An option whose underlying month is not listed.
-    UnderlyingNotListed,
+    UnderlyingNotListed = 29,
 }
 
 impl OpenFault {
     pub fn code(&self) -> u8
         ensures { result ≡ open_number self.now }
     {
-        match self {
-            OpenFault::NotTaken => 10,
-        }
+        *self as u8
     }
 }
 
@@ -40,15 +38,6 @@ impl Refusal {
     pub fn code(&self) -> u8
         ensures { result ≡ number self.now }
     {
-        match self {
-            Refusal::Time => 20,
-            Refusal::Malformed => 21,
-            Refusal::NotListed => 22,
-            Refusal::Halted => 23,
-            Refusal::OutsideLimits => 24,
-            Refusal::OptionStopped => 25,
-            Refusal::OffEdge => 26,
-            Refusal::UnderlyingNotListed => 29,
-        }
+        *self as u8 // by discriminant
     }
 }

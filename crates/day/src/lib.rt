@@ -4,13 +4,15 @@
 mod calls;
 mod day;
 mod fault;
-mod form;
+mod mark;
 mod options;
 mod order;
 mod orders;
+mod terms;
 mod view;
 
 pub use day::Day;
 pub use fault::{OpenFault, Refusal};
-pub use order::OptionOrder;
+pub use mark::Mark;
+pub use order::{FutureOrder, OptionOrder};
 pub use view::View;

@@ -2,7 +2,8 @@ use limits::Bounds;
 use watches::Side;
 
 /// What a look shows of a day: ends are times, and none where nothing runs.
-#[derive(Clone, Copy)]
+// Kept: a state has its ends in the enums that the project prescribes, and a view shows them as times or none.
+#[derive(Clone, Copy, Debug, PartialEq, Eq)]
 pub struct View {
     pub bounds: Bounds,
     pub lower_level: u8,

@@ -12,24 +12,18 @@ use Rattle.watches.specs.Marking.{fresh, marked}
 use Rattle.watches.specs.Moving.{advanced}
 use Rattle.watch_laws.proofs.Bridges.{reads}
 use Rattle.day.specs.Answering.{in_halt, halted, at_edge, bounds_of}
+use Rattle.day.specs.declared.mark.Mark.{Mark}
 use Rattle.days.specs.declared.call.Call.{Call}
-use Rattle.days.specs.Asking.{CallData, MarkData, as_mark, well_formed, timely, moves, carried, all_carried}
+use Rattle.days.specs.Asking.{CallData, as_mark, well_formed, timely, moves, carried, all_carried}
 use Rattle.days.specs.Telling.{Told, refused, after_checks, answer_at}
 use Rattle.days.specs.Past.{Past, accepts, with_mark_at, after_call, past, clock, day_at, due}
 use Rattle.days.specs.Giving.{with_any_mark, step, answer, played, after}
 use Rattle.days.specs.Central.{Central, InTurn}
 
-choose : (b : Bool) (D E : State) (L M : List AcceptedMark) (G : List AcceptedMark → State) → (b ≡ true → D ≡ G L) → E ≡ G M → cond b D E ≡ G (cond b L M)
-choose true D E L M G f g = f refl
-choose false D E L M G f g = g
-
-split : (b : Bool) (D E : State) (H K : Past) (G : Past → State) → (b ≡ true → D ≡ G H) → E ≡ G K → cond b D E ≡ G (cond b H K)
-split true D E H K G f g = f refl
-split false D E H K G f g = g
-
-keep : (b : Bool) (H K : Past) (P : Past → Type 0) → (b ≡ true → P H) → P K → P (cond b H K)
-keep true H K P f g = f refl
-keep false H K P f g = g
+-- what is read of the one that is chosen
+choose : {A : Type 0} (b : Bool) (D E : State) (x y : A) (G : A → State) → (b ≡ true → D ≡ G x) → E ≡ G y → cond b D E ≡ G (cond b x y)
+choose true D E x y G f g = f refl
+choose false D E x y G f g = g
 
 -- both tests at once
 joint : (b l : Bool) (D E : State) → cond b (cond l D E) E ≡ cond (b && l) D E
@@ -55,13 +49,13 @@ module _ (m : Meaning) (p : ℕ) where
 
   module _ (ms : List AcceptedMark) (t : ℕ) (c : Came m.levels ms) (g : newest ms ≤ t) where
     -- a mark that is accepted comes where no halt runs
-    taken_open : (k : MarkData) → accepts m p ms t k ≡ true → halt m.levels ms t ≡ None
+    taken_open : (k : Mark) → accepts m p ms t k ≡ true → halt m.levels ms t ≡ None
     taken_open k y =
         let d = read m.levels ms t in
         no_halt (halt m.levels ms t) (and_parts (not (halted d)) (at_edge k.kind k.price (bounds_of m p d)) y).0
 
     -- a mark, or none, at t
-    joins : (w : Option MarkData) → with_any_mark m p (read m.levels ms t) w ≡ read m.levels (with_mark_at m p t w ms) t
+    joins : (w : Option Mark) → with_any_mark m p (read m.levels ms t) w ≡ read m.levels (with_mark_at m p t w ms) t
     joins None = refl
     joins (Some k) =
         let n = m.levels in
@@ -69,13 +63,13 @@ module _ (m : Meaning) (p : ℕ) where
         (record { time = t; kind = k.kind } ∷ ms) ms (λ l. read n l t)
         (λ y. (reads n).marks ms t k.kind c g (taken_open k y)) refl
 
-    joined_came : (w : Option MarkData) → Came m.levels (with_mark_at m p t w ms)
+    joined_came : (w : Option Mark) → Came m.levels (with_mark_at m p t w ms)
     joined_came None = c
     joined_came (Some k) =
         cond_both (accepts m p ms t k) (record { time = t; kind = k.kind } ∷ ms) ms (Came m.levels)
         (λ y. (c, g, taken_open k y)) (λ _. c)
 
-    joined_newest : (w : Option MarkData) → newest (with_mark_at m p t w ms) ≤ t
+    joined_newest : (w : Option Mark) → newest (with_mark_at m p t w ms) ≤ t
     joined_newest None = g
     joined_newest (Some k) =
         cond_both (accepts m p ms t k) (record { time = t; kind = k.kind } ∷ ms) ms (λ l. newest l ≤ t)
@@ -92,15 +86,15 @@ module _ (m : Meaning) (p : ℕ) where
 
   kept : (h : Past) (c : CallData) → Kept h → Kept (after_call m p h c)
   kept h c g =
-      keep (moves h.clock c) (moved_past h c) h Kept
+      cond_both (moves h.clock c) (moved_past h c) h Kept
       (λ e. let b = not_before h.clock c e in let a = g.1 in let l : newest h.marks ≤ c.time = omega arith in
       (joined_came h.marks c.time g.0 l (as_mark c.asked), joined_newest h.marks c.time g.0 l (as_mark c.asked)))
-      g
+      (λ _. g)
 
   one : (h : Past) (c : CallData) → Kept h → step m p (shown h) c ≡ shown (after_call m p h c)
   one h c g =
       joint (well_formed c.asked) (timely h.clock c) (with_any_mark m p (advanced (shown h) c.time) (as_mark c.asked)) (shown h)
-      ∙ split (moves h.clock c) (with_any_mark m p (advanced (shown h) c.time) (as_mark c.asked)) (shown h) (moved_past h c) h shown
+      ∙ choose (moves h.clock c) (with_any_mark m p (advanced (shown h) c.time) (as_mark c.asked)) (shown h) (moved_past h c) h shown
       (λ e. let b = not_before h.clock c e in let a = g.1 in let l : newest h.marks ≤ c.time = omega arith in
       ap (λ (d : State). with_any_mark m p d (as_mark c.asked)) ((reads m.levels).moves h.marks h.clock c.time g.0 a b)
       ∙ joins h.marks c.time g.0 l (as_mark c.asked))

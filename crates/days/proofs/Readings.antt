@@ -12,7 +12,8 @@ use Rattle.watches.specs.declared.state.State.{State}
 use Rattle.watches.specs.Ends.{end_of, halt_end}
 use Rattle.watches.specs.Reading.{watch_starts, watch_end, halt, standing, watch_till, phase_till, read}
 use Rattle.day.specs.Answering as day
-use Rattle.days.specs.Asking.{Asked, mark, tick, look, future, series, CallData, MarkData}
+use Rattle.day.specs.declared.mark.Mark.{Mark}
+use Rattle.days.specs.Asking.{Asked, mark, tick, look, future, series, CallData}
 use Rattle.days.specs.Telling.{granted, shows, refused, said, after_checks, answer_at}
 use Rattle.days.specs.Past.{clock, accepted, view_due, due}
 use Rattle.days.specs.Due.{halted, at_edge, takes, view_at, stops, due_month, due_series, due_at, told_due, shown_due}
@@ -56,7 +57,7 @@ module _ (m : Meaning) (p : ℕ) (ms : List AcceptedMark) (t : ℕ) where
   edge_same Offered q = refl
   edge_same Clear q = refl
 
-  pub takes_same : (k : MarkData) → day.takes_mark m p day_read k.kind k.price ≡ takes m p ms t k
+  pub takes_same : (k : Mark) → day.takes_mark m p day_read k.kind k.price ≡ takes m p ms t k
   takes_same k = ap (λ h. not h && day.at_edge k.kind k.price (day.bounds_of m p day_read)) halted_same ∙ ap (λ e. not (halted m p ms t) && e) (edge_same k.kind k.price)
 
   stops_same : (s : Option Side) (last : Bool) → day.against m.levels day_read s last ≡ stops m p s last ms t
@@ -87,7 +88,7 @@ module _ (m : Meaning) (p : ℕ) (ms : List AcceptedMark) (t : ℕ) where
   at_same tick = refl
   at_same look = ap shows view_same
   at_same (future c q fs) = month_same (day.month_in c fs) q
-  at_same (series o ss fs) = series_same (day.series_in o ss) (day.underlying_in o.code fs)
+  at_same (series o ss fs) = series_same (day.series_in o ss) (day.underlying_in o.contract.code fs)
 
 -- what is due by a day read from the accepted marks is what is due by the marks
 pub due_same : (m : Meaning) (p : ℕ) (cs : List CallData) (c : CallData) → due m p cs c ≡ told_due m p cs c

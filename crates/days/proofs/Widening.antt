@@ -13,8 +13,9 @@ use Rattle.watch_laws.proofs.All.{laws}
 use Rattle.day.specs.declared.view.View.{View}
 use Rattle.day.specs.Answering.{seen, inside}
 use Rattle.day.specs.Form.{futures_tick}
+use Rattle.day.specs.declared.mark.Mark.{Mark}
 use Rattle.days.specs.declared.call.Call.{Call}
-use Rattle.days.specs.Asking.{CallData, MarkData, as_mark, moves, all_carried}
+use Rattle.days.specs.Asking.{CallData, as_mark, moves, all_carried}
 use Rattle.days.specs.Telling.{Told}
 use Rattle.days.specs.Past.{Past, accepts, with_mark_at, after_call, past, clock, accepted, day_at, view_due}
 use Rattle.days.specs.Giving.{answer, played}
@@ -26,7 +27,7 @@ module _ (m : Meaning) (p : ℕ) where
     abbrev rank : List AcceptedMark → ℕ
     rank ms = level m.levels side ms t
 
-    marked_up : (ms : List AcceptedMark) (u : ℕ) (w : Option MarkData) → rank ms ≤ rank (with_mark_at m p u w ms)
+    marked_up : (ms : List AcceptedMark) (u : ℕ) (w : Option Mark) → rank ms ≤ rank (with_mark_at m p u w ms)
     marked_up ms u None = omega arith
     marked_up ms u (Some k) =
         let x : AcceptedMark = record { time = u; kind = k.kind } in
@@ -58,7 +59,7 @@ module _ (m : Meaning) (p : ℕ) where
         let cs = newer ++ older in
         let u = clock m p cs in
         let L = (laws m.levels).levels in
-        widens m law p futures_tick taken
+        widens m law p taken futures_tick
         (level m.levels Lower (accepted m p older) t) (level m.levels Upper (accepted m p older) t)
         (level m.levels Lower (accepted m p cs) u) (level m.levels Upper (accepted m p cs) u) q
         (rises Lower newer older t u e) (rises Upper newer older t u e)

@@ -5,6 +5,7 @@ use Rattle.listings.specs.declared.futures.FuturesMonth.{FuturesMonth}
 use Rattle.listings.specs.declared.series.OptionSeries.{OptionSeries}
 use Rattle.watches.specs.declared.state.Kind.{Kind}
 use Rattle.watches.specs.Words as words
+use Rattle.day.specs.declared.mark.Mark.{Mark}
 use Rattle.day.specs.declared.order.OptionOrder.{OptionOrder}
 use Rattle.day.specs.Form.{mark_formed, future_formed, option_formed}
 use Rattle.days.specs.declared.call.Action.{Action}
@@ -24,10 +25,10 @@ pub record CallData : Type 0 where
   pub asked : Asked
 
 abbrev pub asked_by : Action → Asked
-asked_by (action.Mark k q) = mark k q
+asked_by (action.Mark k) = mark k.kind k.price
 asked_by action.Tick = tick
 asked_by action.Look = look
-asked_by (action.Future c q ms) = future c q ms.now
+asked_by (action.Future o ms) = future o.code o.price ms.now
 asked_by (action.Option o ss ms) = series o ss.now ms.now
 
 abbrev pub carried : Call → CallData
@@ -37,12 +38,8 @@ carried c = record { time = c.time; asked = asked_by c.action }
 abbrev pub all_carried : List Call → List CallData
 all_carried xs = reverse (map carried xs)
 
-pub record MarkData : Type 0 where
-  pub kind : Kind
-  pub price : ℕ
-
 -- The mark that a call makes. No other call changes more than the time.
-abbrev pub as_mark : Asked → Option MarkData
+abbrev pub as_mark : Asked → Option Mark
 as_mark (mark k q) = Some (record { kind = k; price = q })
 as_mark tick = None
 as_mark look = None

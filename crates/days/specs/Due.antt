@@ -15,7 +15,8 @@ use Rattle.watches.specs.Reading.{watch_starts, watch_end, level, halt, standing
 use Rattle.day.specs.declared.view.View.{View}
 use Rattle.day.specs.Answering.{month_in, series_in, underlying_in}
 use Rattle.day.specs.Form.{futures_tick}
-use Rattle.days.specs.Asking.{Asked, mark, tick, look, future, series, CallData, MarkData}
+use Rattle.day.specs.declared.mark.Mark.{Mark}
+use Rattle.days.specs.Asking.{Asked, mark, tick, look, future, series, CallData}
 use Rattle.days.specs.Past.{clock, accepted}
 use Rattle.days.specs.Telling.{Told, granted, shows, refused, after_checks}
 
@@ -39,7 +40,7 @@ module _ (m : Meaning) (p : ℕ) where
 
   -- Accepted: a mark at t, exactly when by the marks accepted before it no halt runs at t and it is clear or at its
   -- side's edge.
-  abbrev pub takes : List AcceptedMark → ℕ → MarkData → Bool
+  abbrev pub takes : List AcceptedMark → ℕ → Mark → Bool
   takes ms t k = not (halted ms t) && at_edge k.kind k.price ms t
 
   -- What a look at t shows.
@@ -80,7 +81,7 @@ module _ (m : Meaning) (p : ℕ) where
   due_at ms t tick = granted
   due_at ms t look = shows (view_at ms t)
   due_at ms t (future c q fs) = due_month (month_in c fs) q ms t
-  due_at ms t (series o ss fs) = due_series (series_in o ss) (underlying_in o.code fs) ms t
+  due_at ms t (series o ss fs) = due_series (series_in o ss) (underlying_in o.contract.code fs) ms t
 
   -- The answer due to a call after these.
   abbrev pub told_due : List CallData → CallData → Told

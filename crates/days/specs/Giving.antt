@@ -5,12 +5,13 @@ use Rattle.watches.specs.declared.state.State.{State}
 use Rattle.watches.specs.Marking.{fresh}
 use Rattle.watches.specs.Moving.{advanced}
 use Rattle.day.specs.Answering.{acted, with_mark}
+use Rattle.day.specs.declared.mark.Mark.{Mark}
 use Rattle.days.specs.declared.call.Call.{Call}
-use Rattle.days.specs.Asking.{CallData, MarkData, as_mark, well_formed, carried}
+use Rattle.days.specs.Asking.{CallData, as_mark, well_formed, carried}
 use Rattle.days.specs.Telling.{Told, after_checks, answer_at}
 
 module _ (m : Meaning) (p : ℕ) where
-  abbrev pub with_any_mark : State → Option MarkData → State
+  abbrev pub with_any_mark : State → Option Mark → State
   with_any_mark d None = d
   with_any_mark d (Some k) = with_mark m p d k.kind k.price
 

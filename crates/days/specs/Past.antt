@@ -8,7 +8,8 @@ use Rattle.watches.specs.declared.state.State.{State}
 use Rattle.watches.specs.Reading as reading
 use Rattle.day.specs.declared.view.View.{View}
 use Rattle.day.specs.Answering.{takes_mark, seen}
-use Rattle.days.specs.Asking.{CallData, MarkData, as_mark, moves}
+use Rattle.day.specs.declared.mark.Mark.{Mark}
+use Rattle.days.specs.Asking.{CallData, as_mark, moves}
 use Rattle.days.specs.Telling.{Told, after_checks, answer_at}
 
 pub record Past : Type 0 where
@@ -21,10 +22,10 @@ start = record { clock = 0; marks = [] }
 module _ (m : Meaning) (p : ℕ) where
   -- Accepted: a mark at t, exactly when by the marks accepted before it no halt runs at t and it is clear or at its
   -- side's edge.
-  abbrev pub accepts : List AcceptedMark → ℕ → MarkData → Bool
+  abbrev pub accepts : List AcceptedMark → ℕ → Mark → Bool
   accepts ms t k = takes_mark m p (reading.read m.levels ms t) k.kind k.price
 
-  abbrev pub with_mark_at : ℕ → Option MarkData → List AcceptedMark → List AcceptedMark
+  abbrev pub with_mark_at : ℕ → Option Mark → List AcceptedMark → List AcceptedMark
   with_mark_at t None ms = ms
   with_mark_at t (Some k) ms = cond (accepts ms t k) (record { time = t; kind = k.kind } ∷ ms) ms
 

@@ -1,30 +1,25 @@
-use day::OptionOrder;
-use listings::code::MonthCode;
+use day::{FutureOrder, Mark, OptionOrder};
 use listings::futures::FuturesMonth;
 use listings::series::OptionSeries;
-use watches::Kind;
 
 /// What one call hands to a day.
-#[derive(Clone, Copy)]
+#[derive(Clone, Copy, Debug, PartialEq, Eq)]
 pub struct Call<'a> {
     pub time: u32,
     pub action: Action<'a>,
 }
 
 /// What a call asks. An order lends the listings that it is shown.
-#[derive(Clone, Copy)]
+#[derive(Clone, Copy, Debug, PartialEq, Eq)]
 pub enum Action<'a> {
-    Mark {
-        kind: Kind,
-        price: u32,
-    },
+    Mark(Mark),
     Tick,
     Look,
     Future {
-        code: MonthCode,
-        price: u32,
+        order: FutureOrder,
         months: &'a [FuturesMonth],
     },
+    // Kept: only an option order is shown both rows, and it looks in each apart, so a struct of both would be taken apart.
     Option {
         order: OptionOrder,
         series: &'a [OptionSeries],

@@ -7,40 +7,42 @@ ghost use Rattle.days.specs.Giving.{answer, played};
 ghost use Rattle.days.specs.Reads.{ReadsSo};
 ghost use Rattle.days.specs.Telling.{told};
 
-use crate::answer::Answer;
 use crate::call::Call;
-use crate::giving::{give, give_all};
+use crate::giving::{Answer, give, give_all};
 use day::{Day, OpenFault, View};
 use limits::LimitRule;
 
-/// A day after some calls, and what it answers to one more.
-#[derive(Drop)]
-pub struct Played<R> {
-    /// The day as it stands before the further call, at its clock.
-    pub day: Day<R>,
+/// How a day stands after its calls, at its clock, and what it answers to one more.
+#[derive(Clone, Copy, Debug, PartialEq, Eq)]
+pub struct Outcome {
     pub clock: u32,
     pub view: View,
     pub answer: Answer,
 }
 
-fn run<R: LimitRule>(day: Day<R>, calls: &[Call], next: &Call) -> Played<R>
-    ensures state { result.day.watches.state ≡ played (R.LimitRule.means day.rule) day.price day.watches.state calls.now }
-    ensures answer { told result.answer ≡ answer (R.LimitRule.means day.rule) day.price result.day.watches.state (carried next.now) }
-    ensures clock { result.clock ≡ result.day.watches.state.clock }
-    ensures view { result.view ≡ seen (R.LimitRule.means day.rule) day.price result.day.watches.state }
-    ensures rule { result.day.rule ≡ day.rule }
-    ensures price { result.day.price ≡ day.price }
+/// A day after some calls, before the further one.
+#[derive(Clone, Copy)]
+pub struct Played<R> {
+    pub day: Day<R>,
+    pub outcome: Outcome,
+}
+
+fn run<R: LimitRule>(mut day: Day<R>, calls: &[Call], next: &Call) -> Played<R>
+    ensures state { result.day.watches.state ≡ played (R.LimitRule.means day.terms.rule) day.terms.price day.watches.state calls.now }
+    ensures answer { told result.outcome.answer ≡ answer (R.LimitRule.means day.terms.rule) day.terms.price result.day.watches.state (carried next.now) }
+    ensures clock { result.outcome.clock ≡ result.day.watches.state.clock }
+    ensures view { result.outcome.view ≡ seen (R.LimitRule.means day.terms.rule) day.terms.price result.day.watches.state }
+    ensures terms { result.day.terms ≡ day.terms }
 {
-    let mut day = day;
     give_all(&mut day, calls);
     let mut further = day;
     let answer = give(&mut further, next);
-    Played {
+    let outcome = Outcome {
         clock: day.clock(),
         view: day.view(),
-        day,
         answer,
-    }
+    };
+    Played { day, outcome }
 }
 
 /// Opens a day, gives it the calls in order, and answers how it stands then and what it answers to one call more. Both
@@ -51,10 +53,8 @@ pub fn play<R: LimitRule>(
     calls: &[Call],
     next: &Call,
 ) -> Result<Played<R>, OpenFault>
-    ensures { MatchResult result (λ d. ((R.LimitRule.means rule).takes (not_above (R.LimitRule.means rule).unit price) ≡ true) × (d.day.rule ≡ rule) × (d.day.price ≡ not_above (R.LimitRule.means rule).unit price) × ReadsSo (R.LimitRule.means rule) (not_above (R.LimitRule.means rule).unit price) (all_carried calls.now) (carried next.now) d.day.watches.state d.clock d.view (told d.answer)) (λ e. ((R.LimitRule.means rule).takes (not_above (R.LimitRule.means rule).unit price) ≡ false) × (open_number e ≡ 10)) }
+    ensures { MatchResult result (λ d. ((R.LimitRule.means rule).takes (not_above (R.LimitRule.means rule).unit price) ≡ true) × (d.day.terms.rule ≡ rule) × (d.day.terms.price ≡ not_above (R.LimitRule.means rule).unit price) × ReadsSo (R.LimitRule.means rule) (not_above (R.LimitRule.means rule).unit price) (all_carried calls.now) (carried next.now) d.day.watches.state d.outcome.clock d.outcome.view (told d.outcome.answer)) (λ e. ((R.LimitRule.means rule).takes (not_above (R.LimitRule.means rule).unit price) ≡ false) × (open_number e ≡ 10)) }
 {
-    match Day::open(rule, price) {
-        Ok(day) => Ok(run(day, calls, next)),
-        Err(fault) => Err(fault),
-    }
+    let day = Day::open(rule, price)?;
+    Ok(run(day, calls, next))
 }

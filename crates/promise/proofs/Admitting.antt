@@ -51,7 +51,7 @@ module _ (m : Meaning) (p : ℕ) (ms : List AcceptedMark) (k : ℕ) (c : CallDat
   pub admits_option : (o : OptionOrder) (ss : List OptionSeries) (fs : List FuturesMonth) (s : OptionSeries) → FitOption k c o ss fs s
       → Exactly (told ≡ granted) ((halted m p ms c.time ≡ false) × (against m p s.last_day ms c.time ≡ false))
   admits_option o ss fs s fit =
-      along ((halted m p ms c.time ≡ false) × (against m p s.last_day ms c.time ≡ false)) told (due_series m p (Some s) (underlying_in o.code fs) ms c.time)
+      along ((halted m p ms c.time ≡ false) × (against m p s.last_day ms c.time ≡ false)) told (due_series m p (Some s) (underlying_in o.contract.code fs) ms c.time)
       (checked k c (due_at m p ms c.time c.asked) fit.moves ∙ ap (due_at m p ms c.time) fit.asks
-      ∙ ap (λ (f : Option OptionSeries). due_series m p f (underlying_in o.code fs) ms c.time) fit.listed)
-      (series_bools (underlying_in o.code fs) (halted m p ms c.time) (against m p s.last_day ms c.time) fit.based)
+      ∙ ap (λ (f : Option OptionSeries). due_series m p f (underlying_in o.contract.code fs) ms c.time) fit.listed)
+      (series_bools (underlying_in o.contract.code fs) (halted m p ms c.time) (against m p s.last_day ms c.time) fit.based)

@@ -35,8 +35,8 @@ module _ (m : Meaning) (p : ℕ) (ms : List AcceptedMark) (t : ℕ) where
   same_at a b looks = refl
   same_at a b (futures {c} {q} {xs} {ys} e) = ap (λ (f : Option FuturesMonth). due_month m p f q ms t) (e c)
   same_at a b (options {o} {ss} {us} {xs} {ys} e f) =
-      ap (λ (s : Option OptionSeries). due_series m p s (underlying_in o.code xs) ms t) (e o)
-      ∙ ap (λ (u : Option FuturesMonth). due_series m p (series_in o us) (is_some u) ms t) (f (underlying_code o.code))
+      ap (λ (s : Option OptionSeries). due_series m p s (underlying_in o.contract.code xs) ms t) (e o)
+      ∙ ap (λ (u : Option FuturesMonth). due_series m p (series_in o us) (is_some u) ms t) (f (underlying_code o.contract.code))
 
 same_form : (a b : Asked) → SameAsked a b → well_formed a ≡ well_formed b
 same_form a b (marks {k} {q}) = refl

@@ -1,10 +1,11 @@
 -- What an opened day keeps.
-use Rattle.std.proofs.Common.{◌≡◌, ℕ, ◌+◌, ◌-◌, ◌≤◌, true, leb, List, ◌++◌, sym, refl, ap, subst, arith}
+use Rattle.std.proofs.Common.{◌≡◌, ℕ, ◌+◌, ◌-◌, ◌<◌, ◌≤◌, true, leb, List, ◌++◌, sym, refl, ap, subst, arith}
 use Rattle.std.proofs.lemmas.Bool.{and_parts, leb-true}
 use Rattle.std.proofs.lemmas.Bool.Decides.{nat_tests}
 use Rattle.limits.specs.Meaning.{Meaning, Lawful, points}
 use Rattle.limits.specs.Around.{distance}
-use Rattle.limits.proofs.Offsets.{distance_taken, edges}
+use Rattle.limits.specs.Laws.{Edges}
+use Rattle.limits.proofs.Nearest.{largest, smallest}
 use Rattle.watches.specs.declared.state.Side.{Side}
 use Rattle.watches.specs.declared.state.Side.TheVariants.{Upper, Lower}
 use Rattle.watches.specs.Reading.{level}
@@ -33,7 +34,19 @@ module _ (m : Meaning) (law : Lawful m) (p : ℕ) (taken : m.takes p ≡ true) w
         distance_is (side_level side) l.low (l.high law.some)
 
     below : p - distance m (side_level Lower) p + m.offset (side_level Lower) p ≡ p
-    below = omega (arith, away Lower, distance_taken m law p taken (side_level Lower))
+    below =
+        let at = law.at p taken in
+        let l = (laws m.levels).levels Lower (accepted m p cs) (clock m p cs) in
+        let under : m.offset (side_level Lower) p < p = grind (arith, at.rises, l.high law.some) in
+        omega (arith, away Lower)
+
+    edges_due : Edges (points 5) (shown_due m p cs).bounds
+    edges_due =
+        let high = (law.at p taken).high in
+        record {
+          upper = largest (points 5) (omega arith) _;
+          lower = smallest (points 5) (omega arith) _ (omega arith) (omega arith);
+        }
 
     stays_within : (newer older : List CallData) → cs ≡ newer ++ older → (t q : ℕ) → t ≤ clock m p cs → inside m p (accepted m p older) t q ≡ true
         → ((shown_due m p cs).bounds.lower ≤ q) × (q ≤ (shown_due m p cs).bounds.upper)
@@ -52,7 +65,7 @@ module _ (m : Meaning) (law : Lawful m) (p : ℕ) (taken : m.takes p ≡ true) w
       upper_level = refl;
       lower_limit = below;
       upper_limit = ap (λ d. p + d) (away Upper);
-      edges = edges m law p (points 5) (side_level Lower) (side_level Upper) taken (omega arith) (omega arith);
+      edges = edges_due;
       stays = stays_within;
       admits_futures = admits_future m p (accepted m p cs) (clock m p cs) c;
       admits_options = admits_option m p (accepted m p cs) (clock m p cs) c;

@@ -5,4 +5,3 @@ pub mod Answering
 pub mod Keeping
 pub mod Reordering
 pub mod Promised
-pub mod Cases

@@ -1,14 +1,12 @@
 -- Rows with the same entries, in whatever order, are looked up alike.
-use Rattle.std.proofs.Common.{◌≡◌, ℕ, Bool, true, false, ◌&&◌, eqb, List, [], ◌∷◌, Some, None, Option, sym, refl, ap, ◌∙◌, subst, inl, inr, arith}
-use Rattle.std.proofs.lemmas.Bool.{cases_Bool, cond-true, cond-false, or_parts, both_ways, and_parts, and_from}
+use Rattle.std.proofs.Common.{rules, ◌≡◌, Bool, true, false, List, [], ◌∷◌, Some, None, Option, sym, refl, ap, ◌∙◌, subst, inl, inr, arith}
+use Rattle.std.proofs.lemmas.Bool.{cases_Bool, cond-true, cond-false, or_parts, both_ways}
 use Rattle.std.proofs.lemmas.Bool.Decides.{nat_tests}
 use Rattle.roster.specs.Places.{record_of}
 use Rattle.listings.specs.declared.code.MonthCode.{MonthCode}
 use Rattle.listings.specs.declared.futures.FuturesMonth.{FuturesMonth}
 use Rattle.listings.specs.declared.series.OptionSeries.{OptionSeries}
-use Rattle.listings.specs.declared.series.Right.{Right}
-use Rattle.listings.specs.declared.series.Right.TheVariants.{Call, Put}
-use Rattle.listings.specs.Kinds.{same_month, same_right, same_series}
+use Rattle.listings.specs.Kinds.{same_month, same_series}
 use Rattle.listings.specs.Months.{same_code}
 use Rattle.listings.specs.Sames.{series_trans}
 use Rattle.roster_laws.specs.Changing.{any}
@@ -40,7 +38,7 @@ module _ {L : Type 0} (same : L → L → Bool) where
         ]
 
     found_stands : (x : L) (xs : List L) → record_of (same w) xs ≡ Some x → Stands x xs × (same w x ≡ true)
-    found_stands x [] e = absurd (let z : ◌≡◌ {A = ℕ} 0 1 = cc in omega arith)
+    found_stands x [] e = cc
     found_stands x (y ∷ ys) e =
         elim (cases_Bool (same w y)) [
           | inl t ↦
@@ -66,21 +64,8 @@ module _ {L : Type 0} (same : L → L → Bool) where
 code_shared : (w x y : MonthCode) → same_code w x ≡ true → same_code w y ≡ true → same_code x y ≡ true
 code_shared w x y a b = grind (arith, nat_tests)
 
-right_back : (x y : Right) → same_right x y ≡ true → same_right y x ≡ true
-right_back Call Call e = refl
-right_back Call Put e = e
-right_back Put Call e = e
-right_back Put Put e = refl
-
 series_back : (x y : OptionSeries) → same_series x y ≡ true → same_series y x ≡ true
-series_back x y e =
-    let a = and_parts (same_code x.code y.code) (eqb x.strike y.strike && same_right x.right y.right) e in
-    let b = and_parts (eqb x.strike y.strike) (same_right x.right y.right) a.1 in
-    let c = a.0 in
-    let s = b.0 in
-    let code : same_code y.code x.code ≡ true = grind (arith, nat_tests) in
-    let strike : eqb y.strike x.strike ≡ true = grind (arith, nat_tests) in
-    and_from _ _ code (and_from _ _ strike (right_back x.right y.right b.1))
+series_back x y e = search rules
 
 pub months_reordered : (xs ys : List FuturesMonth) → Reordered same_month xs ys → SameMonths xs ys
 months_reordered xs ys r c =

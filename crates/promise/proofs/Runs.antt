@@ -1,6 +1,6 @@
 -- A day's part, taken apart.
-use Rattle.std.proofs.Common.{◌≡◌, ℕ, Bool, true, false, cond, List, Ok, Err, Result, sym, refl, ap, ◌∙◌, subst, arith}
-use Rattle.std.proofs.lemmas.Bool.{cond-true, cond-false}
+use Rattle.std.proofs.Common.{◌≡◌, ℕ, Bool, true, false, cond, List, Ok, Err, Result, sym, refl, ◌∙◌, subst}
+use Rattle.std.proofs.lemmas.Bool.{cond-true}
 use Rattle.tape.specs.Codes.{Refusal}
 use Rattle.reference.specs.declared.finding.Reference.{Reference}
 use Rattle.limits.specs.Meaning.{Meaning}
@@ -29,16 +29,13 @@ module _ (m : Meaning) (cs : List CallData) (c : CallData) where
   runs r p k v a taken price is shown told =
       same_ran r price is shown told ∙ sym (cond-true (m.takes (opens_at m r)) _ (not_opened r 10) taken)
 
-  pub stops : (r : Reference) (n : ℕ) → m.takes (opens_at m r) ≡ false → n ≡ 10 → not_opened r n ≡ opened m r (opens_at m r) cs c
-  stops r n left is = ap (not_opened r) is ∙ sym (cond-false (m.takes (opens_at m r)) _ (not_opened r 10) left)
-
   -- what an opened day comes to
   abbrev pub run : Reference → Part
   run r = ran r (opens_at m r) (clock m (opens_at m r) cs) (shown_due m (opens_at m r) cs) (told_due m (opens_at m r) cs c)
 
   opened_ran : (s : Reference) (b : Bool) (r : Reference) (p k : ℕ) (v : View) (a : Told) → m.takes (opens_at m s) ≡ b
       → cond b (run s) (not_opened s 10) ≡ ran r p k v a → Ran m r p cs c k v a
-  opened_ran s false r p k v a t e = absurd (let z : ◌≡◌ {A = ℕ} 0 1 = cc in omega arith)
+  opened_ran s false r p k v a t e = cc
   opened_ran s true r p k v a t e =
       let same : s ≡ r = cc in
       let price : opens_at m s ≡ p = cc in
@@ -47,7 +44,7 @@ module _ (m : Meaning) (cs : List CallData) (c : CallData) where
 
   pub ran_is : (R : Result Reference Refusal) (r : Reference) (p k : ℕ) (v : View) (a : Told) → part_of m R cs c ≡ ran r p k v a → Ran m r p cs c k v a
   ran_is (Ok s) r p k v a e = opened_ran s (m.takes (opens_at m s)) r p k v a refl e
-  ran_is (Err f) r p k v a e = absurd (let z : ◌≡◌ {A = ℕ} 0 1 = cc in omega arith)
+  ran_is (Err f) r p k v a e = cc
 
   opened_reference : (b : Bool) (r : Reference) → reference_in (cond b (run r) (not_opened r 10)) ≡ Ok r
   opened_reference true r = refl

@@ -20,4 +20,4 @@ pub record FitOption (clock : ℕ) (x : CallData) (o : OptionOrder) (ss : List O
   pub asks : x.asked ≡ series o ss ms
   pub moves : moves clock x ≡ true
   pub listed : series_in o ss ≡ Some s
-  pub based : underlying_in o.code ms ≡ true
+  pub based : underlying_in o.contract.code ms ≡ true

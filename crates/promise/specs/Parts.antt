@@ -42,7 +42,7 @@ pub data Part : Type 0 where
   ran : Reference → ℕ → ℕ → View → Told → Part
 
 abbrev pub part_told : Result DayRun RunFault → Part
-part_told (Ok d) = ran d.reference d.price d.clock d.view (told d.answer)
+part_told (Ok d) = ran d.reference d.price d.outcome.clock d.outcome.view (told d.outcome.answer)
 part_told (Err (fault.Reference f)) = no_reference (reference_refusal f)
 part_told (Err (fault.Open r f)) = not_opened r (open_number f)
 

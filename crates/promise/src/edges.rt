@@ -15,7 +15,7 @@ const PRICE: u32 = 3_813_000;
 fn limits_at(level: u8) -> Bounds
     ensures { result ≡ bounds daily futures_tick price level level }
 {
-    Bounds::around(&Daily, FuturesMonth::price_step(), PRICE, level, level)
+    Bounds::around(&Daily, FuturesMonth::TICK, PRICE, level, level)
 }
 
 /// The daily limits at 38,130 points by level. The contract also settles the other edge cases of the rules.
@@ -23,5 +23,5 @@ pub fn edge_cases() -> [Bounds; 3]
     ensures levels { result ≡ by_level }
     ensures cases { EdgeCases }
 {
-    [limits_at(1), limits_at(2), limits_at(3)]
+    [1, 2, 3].map(limits_at)
 }

@@ -7,6 +7,7 @@ mod plan;
 mod run;
 
 pub use edges::edge_cases;
-pub use pair::{Pair, pair_days};
+pub use pair::pair_days;
 pub use plan::DayPlan;
 pub use run::{DayRun, RunFault};
+pub use tape_laws::both::Pair;

@@ -1,27 +1,25 @@
 ghost use Rattle.std.specs.Prelude.{◌≡◌};
 ghost use Rattle.tape.specs.Codes.{code_of, place_of};
 ghost use Rattle.promise.specs.declared.run.RunFault.TheVariants.{Reference};
-ghost use Rattle.promise.specs.Parts.{given, part_told, part_due, fault_refusal, reference_in, Referred};
+ghost use Rattle.promise.specs.Parts.{given_by, part_told, part_due, fault_refusal, reference_in, Referred};
 
-use day::{OpenFault, View};
-use days::{Answer, Call, play};
+use crate::plan::DayPlan;
+use day::OpenFault;
+use days::{Outcome, play};
 use limits::LimitRule;
 use reference::fault::ReferenceFault;
 use reference::finding::{Reference, Request, find_reference};
 
-/// A day that opened: the reference price found, the price opened at, how the day stands after its calls, and its answer
-/// to the further call.
-#[derive(Clone, Copy)]
+/// A day that opened: the reference price found, the price opened at, and what came of its calls.
+#[derive(Clone, Copy, Debug, PartialEq, Eq)]
 pub struct DayRun {
     pub reference: Reference,
     pub price: u32,
-    pub clock: u32,
-    pub view: View,
-    pub answer: Answer,
+    pub outcome: Outcome,
 }
 
 /// Why a day did not open.
-#[derive(Clone, Copy)]
+#[derive(Clone, Copy, Debug, PartialEq, Eq)]
 pub enum RunFault {
     Reference(ReferenceFault),
     /// The rule does not take the reference price, rounded.
@@ -31,6 +29,7 @@ pub enum RunFault {
     },
 }
 
+// Kept: a derived From has no contract, and contracts here name the variant.
 impl From<ReferenceFault> for RunFault {
     ghost from_gives = { λ e r. r ≡ Reference e };
 
@@ -43,6 +42,7 @@ impl RunFault {
     pub fn code(&self) -> u8
         ensures { result ≡ code_of (fault_refusal self.now) }
     {
+        // Kept: each variant carries a fault, so no discriminant can be its number.
         match self {
             RunFault::Reference(fault) => fault.code(),
             RunFault::Open { fault, .. } => fault.code(),
@@ -64,22 +64,18 @@ impl RunFault {
 pub(crate) fn run_day<R: LimitRule>(
     rule: R,
     request: &Request,
-    tape: &[u8],
-    calls: &[Call],
-    next: &Call,
+    plan: &DayPlan,
 ) -> Result<DayRun, RunFault>
-    ensures part { part_told result ≡ part_due (R.LimitRule.means rule) request.now (given tape.now calls.now next.now) }
-    ensures refers { Referred request.now tape.now (reference_in (part_told result)) }
+    ensures part { part_told result ≡ part_due (R.LimitRule.means rule) request.now (given_by plan.now) }
+    ensures refers { Referred request.now plan.now.tape.now (reference_in (part_told result)) }
 {
-    let reference = find_reference(tape, request)?;
-    match play(rule, reference.price, calls, next) {
-        Ok(played) => Ok(DayRun {
-            reference,
-            price: played.day.price(),
-            clock: played.clock,
-            view: played.view,
-            answer: played.answer,
-        }),
-        Err(fault) => Err(RunFault::Open { reference, fault }),
-    }
+    let reference = find_reference(plan.tape, request)?;
+    let played = play(rule, reference.price, plan.calls, &plan.next).map_err(
+        |fault| RunFault::Open { reference, fault },
+    )?;
+    Ok(DayRun {
+        reference,
+        price: played.day.price(),
+        outcome: played.outcome,
+    })
 }
