@@ -1,6 +1,12 @@
 // The calls of a script.
-use listings::series::Right;
-use watches::Kind;
+use super::rule_calls::Rule;
+use day::{FutureOrder, Mark, OptionOrder};
+use listings::futures::FuturesMonth;
+use listings::series::OptionSeries;
+use reference::finding::Request;
+use rules::RuleFault;
+use std::fmt;
+use tape::record::Record;
 
 pub const CALLS: &str =
     "limitday [SCRIPT]   plays the calls of a script, or of standard input, one to a line
@@ -51,167 +57,116 @@ pub enum Verb {
     Rule,
     Offset,
     Places,
-    Month,
-    DropMonth,
-    Series,
-    DropSeries,
+    Month(Change),
+    Series(Change),
     Open,
-    Mark,
-    Tick,
-    Look,
+    Ask(Topic),
     Replay,
-    Future,
-    Option,
     Keep,
     Pair,
 }
 
-impl Verb {
-    pub fn named(word: &str) -> Option<Verb> {
-        match word {
-            "tape" => Some(Verb::Tape),
-            "tape-file" => Some(Verb::TapeFile),
-            "records" => Some(Verb::Records),
-            "start" => Some(Verb::Start),
-            "write" => Some(Verb::Write),
-            "written" => Some(Verb::Written),
-            "window" => Some(Verb::Window),
-            "reference" => Some(Verb::Reference),
-            "rule" => Some(Verb::Rule),
-            "offset" => Some(Verb::Offset),
-            "places" => Some(Verb::Places),
-            "month" => Some(Verb::Month),
-            "drop-month" => Some(Verb::DropMonth),
-            "series" => Some(Verb::Series),
-            "drop-series" => Some(Verb::DropSeries),
-            "open" => Some(Verb::Open),
-            "mark" => Some(Verb::Mark),
-            "tick" => Some(Verb::Tick),
-            "look" => Some(Verb::Look),
-            "replay" => Some(Verb::Replay),
-            "future" => Some(Verb::Future),
-            "option" => Some(Verb::Option),
-            "keep" => Some(Verb::Keep),
-            "pair" => Some(Verb::Pair),
-            _ => None,
-        }
-    }
-
-    // The form of its line.
-    pub fn form(&self) -> &'static str {
-        match self {
-            Verb::Tape => "tape HEX",
-            Verb::TapeFile => "tape-file PATH",
-            Verb::Records => "records",
-            Verb::Start => "start CAPACITY",
-            Verb::Write =>
-                "write trade TIME PRICE VOLUME SYMBOL or write quote TIME BID OFFER SYMBOL",
-            Verb::Written => "written",
-            Verb::Window => "window CLOSE W",
-            Verb::Reference => "reference SYMBOL CLOSE K",
-            Verb::Rule => "rule daily, rule quarterly C1 .. C20 or rule monthly SETTLEMENT",
-            Verb::Offset => "offset LEVEL PRICE",
-            Verb::Places => "places M S",
-            Verb::Month => "month CODE [last]",
-            Verb::DropMonth => "drop-month CODE",
-            Verb::Series => "series CODE STRIKE call|put [last]",
-            Verb::DropSeries => "drop-series CODE STRIKE call|put",
-            Verb::Open => "open PRICE or open reference",
-            Verb::Mark => "mark T bid|offered|clear PRICE",
-            Verb::Tick => "tick T",
-            Verb::Look => "look T",
-            Verb::Replay => "replay T",
-            Verb::Future => "future T CODE PRICE",
-            Verb::Option => "option T CODE STRIKE call|put PRICE",
-            Verb::Keep => "keep first|second",
-            Verb::Pair => "pair SYMBOL CLOSE K CALL",
-        }
-    }
-}
-
-// A record to be written, with a symbol of its own.
-#[derive(Drop)]
-pub enum Draft {
-    Trade {
-        time: u32,
-        price: u32,
-        volume: u32,
-        symbol: Vec<u8>,
-    },
-    Quote {
-        time: u32,
-        bid: u32,
-        offer: u32,
-        symbol: Vec<u8>,
-    },
-}
-
-// What a reference is asked of.
-#[derive(Drop)]
-pub struct Question {
-    pub symbol: Vec<u8>,
-    pub close: u32,
-    pub windows: u32,
-}
-
-// What a limit rule is made of.
-#[derive(Drop)]
-pub enum Figures {
-    Daily,
-    Quarterly(Vec<u32>),
-    Monthly(u32),
-}
-
-// A futures month by its code's word, which the library reads.
-#[derive(Clone, Copy)]
-pub struct MonthWords<'a> {
-    pub code: &'a str,
-    pub last_day: bool,
-}
-
-#[derive(Clone, Copy)]
-pub struct SeriesWords<'a> {
-    pub code: &'a str,
-    pub strike: u32,
-    pub right: Right,
-    pub last_day: bool,
-}
-
-// Where an opening's price comes from.
-#[derive(Clone, Copy)]
-pub enum Start {
-    Stated(u32),
-    Reference,
-}
-
 // A change of the listings.
 #[derive(Clone, Copy)]
-pub enum Change<'a> {
-    Month(MonthWords<'a>),
-    DropMonth(MonthWords<'a>),
-    Series(SeriesWords<'a>),
-    DropSeries(SeriesWords<'a>),
+pub enum Change {
+    Enter,
+    Remove,
 }
 
-// What a day is asked. An order has its code's word, which the library reads.
+// What a day is asked about.
 #[derive(Clone, Copy)]
-pub enum Asked<'a> {
-    Mark(Kind, u32),
+pub enum Topic {
+    Mark,
     Tick,
     Look,
-    Future(&'a str, u32),
-    Option {
-        code: &'a str,
-        strike: u32,
-        right: Right,
-        price: u32,
-    },
+    Future,
+    Option,
+}
+
+// Each call's verb, and the form of its line, which begins with its name.
+const FORMS: [(Verb, &str); 24] = [
+    (Verb::Tape, "tape HEX"),
+    (Verb::TapeFile, "tape-file PATH"),
+    (Verb::Records, "records"),
+    (Verb::Start, "start CAPACITY"),
+    (
+        Verb::Write,
+        "write trade TIME PRICE VOLUME SYMBOL or write quote TIME BID OFFER SYMBOL",
+    ),
+    (Verb::Written, "written"),
+    (Verb::Window, "window CLOSE W"),
+    (Verb::Reference, "reference SYMBOL CLOSE K"),
+    (
+        Verb::Rule,
+        "rule daily, rule quarterly C1 .. C20 or rule monthly SETTLEMENT",
+    ),
+    (Verb::Offset, "offset LEVEL PRICE"),
+    (Verb::Places, "places M S"),
+    (Verb::Month(Change::Enter), "month CODE [last]"),
+    (Verb::Month(Change::Remove), "drop-month CODE"),
+    (
+        Verb::Series(Change::Enter),
+        "series CODE STRIKE call|put [last]",
+    ),
+    (
+        Verb::Series(Change::Remove),
+        "drop-series CODE STRIKE call|put",
+    ),
+    (Verb::Open, "open PRICE or open reference"),
+    (Verb::Ask(Topic::Mark), "mark T bid|offered|clear PRICE"),
+    (Verb::Ask(Topic::Tick), "tick T"),
+    (Verb::Ask(Topic::Look), "look T"),
+    (Verb::Replay, "replay T"),
+    (Verb::Ask(Topic::Future), "future T CODE PRICE"),
+    (
+        Verb::Ask(Topic::Option),
+        "option T CODE STRIKE call|put PRICE",
+    ),
+    (Verb::Keep, "keep first|second"),
+    (Verb::Pair, "pair SYMBOL CLOSE K CALL"),
+];
+
+// The call of that name, and the form of its line.
+pub fn named(word: &str) -> Option<(Verb, &'static str)> {
+    FORMS
+        .iter()
+        .find(|(_, form)| {
+            form.strip_prefix(word)
+                .is_some_and(|rest| rest.is_empty() || rest.starts_with(' '))
+        })
+        .copied()
+}
+
+impl fmt::Display for Change {
+    fn fmt<W: fmt::Write>(&self, f: &mut fmt::Formatter<W>) -> fmt::Result {
+        match self {
+            Change::Enter => f.write_str("listed"),
+            Change::Remove => f.write_str("delisted"),
+        }
+    }
 }
 
 #[derive(Clone, Copy)]
-pub struct Timed<'a> {
+pub enum Listed {
+    Month(FuturesMonth),
+    Series(OptionSeries),
+}
+
+// What a day is asked. An order comes without the listings that it is shown.
+// Kept: days' Action and Call borrow the listings, which may change while a call is kept.
+#[derive(Clone, Copy)]
+pub enum Asked {
+    Mark(Mark),
+    Tick,
+    Look,
+    Future(FutureOrder),
+    Option(OptionOrder),
+}
+
+#[derive(Clone, Copy)]
+pub struct Timed {
     pub time: u32,
-    pub asked: Asked<'a>,
+    pub asked: Asked,
 }
 
 // Which day of a pair.
@@ -221,23 +176,33 @@ pub enum Seat {
     Second,
 }
 
+impl fmt::Display for Seat {
+    fn fmt<W: fmt::Write>(&self, f: &mut fmt::Formatter<W>) -> fmt::Result {
+        match self {
+            Seat::First => f.write_str("first"),
+            Seat::Second => f.write_str("second"),
+        }
+    }
+}
+
 #[derive(Drop)]
 pub enum Call<'a> {
     Tape(Vec<u8>),
     TapeFile(&'a str),
     Records,
     Start(u32),
-    Write(Draft),
+    Write(Record<'a>),
     Written,
     Window { close: u32, windows: u32 },
-    Reference(Question),
-    Rule(Figures),
+    Reference(Request<'a>),
+    Rule(Result<Rule, RuleFault>),
     Offset { level: u32, price: u32 },
     Places { months: u32, series: u32 },
-    List(Change<'a>),
-    Open(Start),
-    Ask(Timed<'a>),
+    List(Change, Listed),
+    // At a stated price, or else at the reference.
+    Open(Option<u32>),
+    Ask(Timed),
     Replay(u32),
     Keep(Seat),
-    Pair(Question, Timed<'a>),
+    Pair(Request<'a>, Timed),
 }

@@ -1,170 +1,107 @@
 // The day: opening, marks, ticks, looks and orders.
-use super::calls::{Start, Timed};
-use super::kept_calls::{Given, KeptCalls};
-use super::rule_calls::Rule;
-use super::session::{Session, print_refusal};
-use super::shown::{Told, accepted_word};
+use super::calls::{Asked, Timed};
+use super::kept_calls::{KeptCall, all_calls};
+use super::line::{Line, NoAnswer};
+use super::rule_calls::{Rule, by_rule};
+use super::session::Session;
+use super::shown::Told;
 use day::{Day, OpenFault};
-use days::{Answer, Call, Played, give, play};
-use limits::LimitRule;
+use days::{Answer, Call, give, play};
 use rules::{Daily, Monthly, Quarterly};
-use std::io;
 use std::io::Write;
 use words::Price;
 
 #[derive(Clone, Copy)]
-pub enum AnyDay {
+enum AnyDay {
     Daily(Day<Daily>),
     Quarterly(Day<Quarterly>),
     Monthly(Day<Monthly>),
 }
 
-fn print_told<W: Write>(out: &mut W, line: u64, told: Told) -> io::Result<()> {
-    writeln!(out, "{line}: {told}")
-}
-
-// The answer to a call after these; none where the day does not open.
-fn play_next<R: LimitRule + Drop>(
-    rule: R,
-    price: u32,
-    calls: &[Call<'_>],
-    next: &Call<'_>,
-) -> Option<Answer> {
-    match play(rule, price, calls, next) {
-        Ok(Played { answer, .. }) => Some(answer),
-        Err(_) => None,
-    }
-}
-
 impl AnyDay {
-    fn opened(rule: Rule, price: u32) -> Result<AnyDay, OpenFault> {
-        match rule {
-            Rule::Daily(rule) => Ok(AnyDay::Daily(Day::open(rule, price)?)),
-            Rule::Quarterly(rule) => Ok(AnyDay::Quarterly(Day::open(rule, price)?)),
-            Rule::Monthly(rule) => Ok(AnyDay::Monthly(Day::open(rule, price)?)),
-        }
+    fn open(rule: Rule, price: u32) -> Result<AnyDay, OpenFault> {
+        Ok(by_rule!(Rule => AnyDay, rule, rule => Day::open(rule, price)?))
     }
 
     fn price(&self) -> u32 {
-        match self {
-            AnyDay::Daily(day) => day.price(),
-            AnyDay::Quarterly(day) => day.price(),
-            AnyDay::Monthly(day) => day.price(),
-        }
+        by_rule!(AnyDay, self, day => day.price())
     }
 
-    // The day after a call, with its answer.
-    fn given(self, call: &Call<'_>) -> (AnyDay, Answer) {
-        match self {
-            AnyDay::Daily(mut day) => {
-                let answer = give(&mut day, call);
-                (AnyDay::Daily(day), answer)
-            }
-            AnyDay::Quarterly(mut day) => {
-                let answer = give(&mut day, call);
-                (AnyDay::Quarterly(day), answer)
-            }
-            AnyDay::Monthly(mut day) => {
-                let answer = give(&mut day, call);
-                (AnyDay::Monthly(day), answer)
-            }
-        }
+    fn give(&mut self, call: &Call<'_>) -> Answer {
+        by_rule!(AnyDay, self, day => give(day, call))
     }
 }
 
-// What a day was opened with.
-#[derive(Clone, Copy)]
-pub struct Opening {
+// A day, what it was opened with, and the calls since.
+#[derive(Drop)]
+pub struct Opened {
+    day: AnyDay,
     rule: Rule,
     price: u32,
+    pub(super) calls: Vec<KeptCall>,
 }
 
-impl Opening {
-    fn play(self, calls: &[Call<'_>], next: &Call<'_>) -> Option<Answer> {
-        match self.rule {
-            Rule::Daily(rule) => play_next(rule, self.price, calls, next),
-            Rule::Quarterly(rule) => play_next(rule, self.price, calls, next),
-            Rule::Monthly(rule) => play_next(rule, self.price, calls, next),
-        }
+impl Opened {
+    // The answer to one call after these, in a day opened anew.
+    fn play(&self, calls: &[Call<'_>], next: &Call<'_>) -> Result<Answer, OpenFault> {
+        by_rule!(Rule, self.rule, rule => Ok(play(rule, self.price, calls, next)?.outcome.answer))
     }
 }
 
 impl Session {
-    // The price that an opening starts from.
-    fn start_price(&self, start: Start) -> Option<u32> {
-        match start {
-            Start::Stated(price) => Some(price),
-            Start::Reference => match self.reference {
-                Some(reference) => Some(reference.price),
-                None => None,
-            },
-        }
+    pub(super) fn opened_day(&self) -> Result<&Opened, NoAnswer> {
+        self.opened.as_ref().ok_or(NoAnswer::Before("a day"))
     }
 
     // A refusal leaves no day.
     pub(super) fn open_day<W: Write>(
         &mut self,
-        out: &mut W,
-        line: u64,
-        start: Start,
-    ) -> io::Result<()> {
-        let Some(rule) = self.rule else {
-            return writeln!(out, "{line}: error: expected a rule before this call");
-        };
-        let Some(start) = self.start_price(start) else {
-            return writeln!(out, "{line}: error: expected a reference before this call");
-        };
-        match AnyDay::opened(rule, start) {
-            Ok(day) => {
-                self.day = Some(day);
-                self.opening = Some(Opening { rule, price: start });
-                self.calls = KeptCalls::new(self.heap);
-                let price = Price(day.price());
-                writeln!(out, "{line}: opened at {price}")
-            }
-            Err(fault) => {
-                self.day = None;
-                self.opening = None;
-                print_refusal(out, line, fault.code(), None)
-            }
-        }
+        line: &mut Line<'_, W>,
+        stated: Option<u32>,
+    ) -> Result<(), NoAnswer> {
+        let rule = self.rule_in_use()?;
+        let found = self.reference.map(|found| found.price);
+        let price = stated.or(found).ok_or(NoAnswer::Before("a reference"))?;
+        self.opened = None;
+        let day = AnyDay::open(rule, price)?;
+        let opened_at = Price(day.price());
+        self.opened = Some(Opened {
+            day,
+            rule,
+            price,
+            calls: Vec::new(self.heap),
+        });
+        Ok(line.tell(format_args!("opened at {opened_at}"))?)
     }
 
     pub(super) fn ask<W: Write>(
         &mut self,
-        out: &mut W,
-        line: u64,
-        timed: Timed<'_>,
-    ) -> io::Result<()> {
-        let Some(day) = self.day else {
-            return writeln!(out, "{line}: error: expected a day before this call");
-        };
-        let given = Given::of(timed);
-        let listings = self.rosters.listings();
-        let (day, answer) = day.given(&given.call(listings));
-        self.day = Some(day);
-        self.calls.push(self.heap, given, listings)?;
-        let word = accepted_word(timed.asked);
-        print_told(out, line, Told { answer, word })
+        line: &mut Line<'_, W>,
+        timed: Timed,
+    ) -> Result<(), NoAnswer> {
+        let opened = self.opened.as_mut().ok_or(NoAnswer::Before("a day"))?;
+        let answer = opened.day.give(&timed.call(self.rosters.listings()));
+        let shown = timed
+            .is_order()
+            .then(|| self.rosters.snapshot(self.heap))
+            .transpose()?;
+        opened.calls.push(KeptCall { timed, shown })?;
+        let word = timed.asked.accepted();
+        Ok(line.tell(Told { answer, word })?)
     }
 
     // The calls since the opening are played anew; the day itself stays where it is.
-    pub(super) fn replay<W: Write>(&self, out: &mut W, line: u64, time: u32) -> io::Result<()> {
-        let Some(opening) = self.opening else {
-            return writeln!(out, "{line}: error: expected a day before this call");
-        };
-        let calls = self.calls.all(self.heap)?;
-        let look = Given::look(time).call(self.rosters.listings());
-        match opening.play(calls.as_slice(), &look) {
-            Some(answer) => print_told(
-                out,
-                line,
-                Told {
-                    answer,
-                    word: "seen",
-                },
-            ),
-            None => Ok(()),
-        }
+    pub(super) fn replay<W: Write>(
+        &self,
+        line: &mut Line<'_, W>,
+        time: u32,
+    ) -> Result<(), NoAnswer> {
+        let opened = self.opened_day()?;
+        let asked = Asked::Look;
+        let look = Timed { time, asked };
+        let calls = all_calls(self.heap, opened.calls.as_slice())?;
+        let answer = opened.play(calls.as_slice(), &look.call(self.rosters.listings()))?;
+        let word = asked.accepted();
+        Ok(line.tell(Told { answer, word })?)
     }
 }

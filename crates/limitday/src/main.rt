@@ -1,12 +1,14 @@
-// Plays a script of calls and prints one answer line for each.
+// Plays a script of calls and prints what each is answered.
 #![tactic(auto)]
 
 mod calls;
 mod day_calls;
 mod kept_calls;
+mod line;
 mod pair_calls;
 mod reading;
 mod reference_calls;
+mod refusals;
 mod roster_calls;
 mod rule_calls;
 mod session;
@@ -15,6 +17,7 @@ mod tape_calls;
 
 use anyhow::anyhow;
 use calls::CALLS;
+use line::Line;
 use session::{Session, play_line};
 use std::fs::File;
 use std::io::{BufRead, BufReader, BufWriter, Read, Write};
@@ -24,11 +27,14 @@ fn play<R: Read + Drop>(rt: &HostRuntime, input: R) -> io::Result<()> {
     let heap = rt.alloc();
     let mut out = BufWriter::new(heap, rt.stdout())?;
     let mut session = Session::new(heap)?;
-    let mut number: u64 = 0;
-    for line in BufReader::new(heap, input)?.split(heap, b'\n') {
-        let line = line?;
-        number = number.saturating_add(1);
-        play_line(rt, &mut out, &mut session, number, line.as_slice())?;
+    let lines = BufReader::new(heap, input)?.split(heap, b'\n');
+    for (text, number) in lines.zip(1..) {
+        let text = text?;
+        let mut line = Line {
+            out: &mut out,
+            number,
+        };
+        play_line(rt, &mut session, &mut line, text.as_slice())?;
     }
     out.flush()
 }

@@ -1,64 +1,53 @@
 // The listings of the day: a roster of futures months and one of option series.
-use super::calls::{Change, MonthWords, SeriesWords};
-use super::kept_calls::Listings;
-use super::session::{Session, print_refusal};
+use super::calls::{Change, Listed};
+use super::kept_calls::{Listings, Snapshot};
+use super::line::{Line, NoAnswer};
+use super::session::Session;
 use listings::code::MonthCode;
 use listings::futures::FuturesMonth;
-use listings::series::{OptionSeries, Right};
+use listings::series::{OptionContract, OptionSeries, Right};
 use roster::fault::RosterFault;
 use roster::held::Roster;
 use roster::listing::Listing;
 use std::alloc::{AllocError, Global};
-use std::io;
 use std::io::Write;
+use std::rc::Rc;
 
 // A roster never uses more.
 pub const MOST_PLACES: u32 = 4096;
 
-// No month's code: what a free place holds.
+// No month's code: it fills a free place, and stands for a word that writes no code.
 pub const NO_CODE: MonthCode = MonthCode {
     letter: ' ',
     year: 0,
 };
 
-const NO_MONTH: FuturesMonth = FuturesMonth {
-    code: NO_CODE,
-    last_day: false,
-};
-
-const NO_SERIES: OptionSeries = OptionSeries {
+const NO_CONTRACT: OptionContract = OptionContract {
     code: NO_CODE,
     strike: 0,
     right: Right::Call,
-    last_day: false,
 };
 
 // Places for listings, and how many of them are taken.
+// Kept: the library's roster has no heap, so it is lent places and takes up its count at each call.
 #[derive(Drop)]
-pub struct Kept<L> {
+struct Kept<L> {
     places: Vec<L>,
     len: usize,
 }
 
-#[derive(Drop)]
-pub struct Rosters {
-    months: Kept<FuturesMonth>,
-    series: Kept<OptionSeries>,
-}
-
 impl<L: Listing + Drop> Kept<L> {
-    // How many stand once the listing is entered.
-    fn list(&mut self, listing: L) -> Result<usize, RosterFault> {
-        let mut roster = Roster::resume(&mut self.places, self.len);
-        roster.list(listing)?;
-        let len = roster.len();
-        self.len = len;
-        Ok(len)
+    fn new(places: Vec<L>) -> Kept<L> {
+        Kept { places, len: 0 }
     }
 
-    fn delist(&mut self, listing: L) -> Result<usize, RosterFault> {
+    // How many stand then.
+    fn change(&mut self, change: Change, listing: L) -> Result<usize, RosterFault> {
         let mut roster = Roster::resume(&mut self.places, self.len);
-        roster.delist(&listing)?;
+        match change {
+            Change::Enter => roster.list(listing)?,
+            Change::Remove => roster.delist(&listing)?,
+        }
         let len = roster.len();
         self.len = len;
         Ok(len)
@@ -70,49 +59,22 @@ impl<L: Listing + Drop> Kept<L> {
     }
 }
 
-fn month_of(words: MonthWords<'_>) -> Result<FuturesMonth, RosterFault> {
-    let code = MonthCode::read(words.code.as_bytes())?;
-    Ok(FuturesMonth {
-        code,
-        last_day: words.last_day,
-    })
-}
-
-fn series_of(words: SeriesWords<'_>) -> Result<OptionSeries, RosterFault> {
-    let code = MonthCode::read(words.code.as_bytes())?;
-    Ok(OptionSeries {
-        code,
-        strike: words.strike,
-        right: words.right,
-        last_day: words.last_day,
-    })
-}
-
-fn print_listed<W: Write>(
-    out: &mut W,
-    line: u64,
-    word: &str,
-    done: Result<usize, RosterFault>,
-) -> io::Result<()> {
-    match done {
-        Ok(len) => writeln!(out, "{line}: {word} {len}"),
-        Err(fault) => print_refusal(out, line, fault.code(), None),
-    }
+#[derive(Drop)]
+pub struct Rosters {
+    months: Kept<FuturesMonth>,
+    series: Kept<OptionSeries>,
+    // Of the listings as they stand, once an order was shown them.
+    snapshot: Option<Rc<Snapshot>>,
 }
 
 impl Rosters {
     pub fn new(heap: Global, months: u32, series: u32) -> Result<Rosters, AllocError> {
-        let months = vec![in heap; NO_MONTH; months as usize]?;
-        let series = vec![in heap; NO_SERIES; series as usize]?;
+        let month = FuturesMonth::from(NO_CODE);
+        let one_series = OptionSeries::from(NO_CONTRACT);
         Ok(Rosters {
-            months: Kept {
-                places: months,
-                len: 0,
-            },
-            series: Kept {
-                places: series,
-                len: 0,
-            },
+            months: Kept::new(vec![in heap; month; months as usize]?),
+            series: Kept::new(vec![in heap; one_series; series as usize]?),
+            snapshot: None,
         })
     }
 
@@ -123,55 +85,46 @@ impl Rosters {
         }
     }
 
-    fn enter_month(&mut self, words: MonthWords<'_>) -> Result<usize, RosterFault> {
-        self.months.list(month_of(words)?)
+    pub(super) fn snapshot(&mut self, heap: Global) -> Result<Rc<Snapshot>, AllocError> {
+        let snapshot = match self.snapshot.take() {
+            Some(snapshot) => snapshot,
+            None => Rc::new(heap, Snapshot::of(heap, self.listings())?)?,
+        };
+        self.snapshot = Some(snapshot.clone()?);
+        Ok(snapshot)
     }
 
-    fn remove_month(&mut self, words: MonthWords<'_>) -> Result<usize, RosterFault> {
-        self.months.delist(month_of(words)?)
-    }
-
-    fn enter_series(&mut self, words: SeriesWords<'_>) -> Result<usize, RosterFault> {
-        self.series.list(series_of(words)?)
-    }
-
-    fn remove_series(&mut self, words: SeriesWords<'_>) -> Result<usize, RosterFault> {
-        self.series.delist(series_of(words)?)
+    fn change(&mut self, change: Change, listed: Listed) -> Result<usize, RosterFault> {
+        let len = match listed {
+            Listed::Month(month) => self.months.change(change, month)?,
+            Listed::Series(series) => self.series.change(change, series)?,
+        };
+        self.snapshot = None;
+        Ok(len)
     }
 }
 
 impl Session {
     pub(super) fn change_listings<W: Write>(
         &mut self,
-        out: &mut W,
-        line: u64,
-        change: Change<'_>,
-    ) -> io::Result<()> {
-        let rosters = &mut self.rosters;
-        let (word, done) = match change {
-            Change::Month(words) => ("listed", rosters.enter_month(words)),
-            Change::DropMonth(words) => ("delisted", rosters.remove_month(words)),
-            Change::Series(words) => ("listed", rosters.enter_series(words)),
-            Change::DropSeries(words) => ("delisted", rosters.remove_series(words)),
-        };
-        if done.is_ok() {
-            self.calls.changed = true;
-        }
-        print_listed(out, line, word, done)
+        line: &mut Line<'_, W>,
+        change: Change,
+        listed: Listed,
+    ) -> Result<(), NoAnswer> {
+        let len = self.rosters.change(change, listed)?;
+        Ok(line.tell(format_args!("{change} {len}"))?)
     }
 
     // Fresh, empty rosters with at most as many places as a roster uses.
     pub(super) fn lay_out<W: Write>(
         &mut self,
-        out: &mut W,
-        line: u64,
+        line: &mut Line<'_, W>,
         months: u32,
         series: u32,
-    ) -> io::Result<()> {
+    ) -> Result<(), NoAnswer> {
         let months = months.min(MOST_PLACES);
         let series = series.min(MOST_PLACES);
         self.rosters = Rosters::new(self.heap, months, series)?;
-        self.calls.changed = true;
-        writeln!(out, "{line}: places {months} {series}")
+        Ok(line.tell(format_args!("places {months} {series}"))?)
     }
 }

@@ -1,9 +1,9 @@
 // The limit rule in use.
-use super::calls::Figures;
-use super::session::{Session, print_refusal};
+use super::line::{Line, NoAnswer};
+use super::session::Session;
+use super::shown::OrNone;
 use limits::LimitRule;
 use rules::{Daily, Monthly, Quarterly, RuleFault};
-use std::io;
 use std::io::Write;
 use words::Price;
 
@@ -14,83 +14,68 @@ pub enum Rule {
     Monthly(Monthly),
 }
 
-impl Rule {
-    fn made_of(figures: &Figures) -> Result<Rule, RuleFault> {
-        match figures {
-            Figures::Daily => Ok(Rule::Daily(Daily)),
-            Figures::Quarterly(closes) => Ok(Rule::Quarterly(Quarterly::from_closes(
-                closes.as_slice(),
-            )?)),
-            Figures::Monthly(settlement) => Ok(Rule::Monthly(Monthly::from_settlement(
-                *settlement,
-            )?)),
+// The same for each case of an enum that has one for each rule; with `=>`, put into the like case of another.
+// Kept: a rule's unit is a constant of its type, so no dyn stands for it, and no function may hand out a dyn day.
+macro_rules! by_rule {
+    ($kinds:ident, $value:expr, $held:ident => $done:expr) => {
+        match $value {
+            $kinds::Daily($held) => $done,
+            $kinds::Quarterly($held) => $done,
+            $kinds::Monthly($held) => $done,
         }
-    }
+    };
+    ($kinds:ident => $others:ident, $value:expr, $held:ident => $done:expr) => {
+        match $value {
+            $kinds::Daily($held) => $others::Daily($done),
+            $kinds::Quarterly($held) => $others::Quarterly($done),
+            $kinds::Monthly($held) => $others::Monthly($done),
+        }
+    };
+}
 
+pub(super) use by_rule;
+
+impl Rule {
     fn unit(&self) -> u32 {
-        match self {
-            Rule::Daily(rule) => rule.rounding_unit(),
-            Rule::Quarterly(rule) => rule.rounding_unit(),
-            Rule::Monthly(rule) => rule.rounding_unit(),
-        }
+        by_rule!(Rule, self, rule => rule.rounding_unit())
     }
 
     fn levels(&self) -> u8 {
-        match self {
-            Rule::Daily(rule) => rule.levels(),
-            Rule::Quarterly(rule) => rule.levels(),
-            Rule::Monthly(rule) => rule.levels(),
-        }
+        by_rule!(Rule, self, rule => rule.levels())
     }
 
     fn offset(&self, level: u8, price: u32) -> Option<u32> {
-        match self {
-            Rule::Daily(rule) => rule.offset(level, price),
-            Rule::Quarterly(rule) => rule.offset(level, price),
-            Rule::Monthly(rule) => rule.offset(level, price),
-        }
+        by_rule!(Rule, self, rule => rule.offset(level, price))
     }
 }
 
 impl Session {
+    pub(super) fn rule_in_use(&self) -> Result<Rule, NoAnswer> {
+        self.rule.ok_or(NoAnswer::Before("a rule"))
+    }
+
     // A refusal leaves no rule.
-    pub(super) fn make_rule<W: Write>(
+    pub(super) fn use_rule<W: Write>(
         &mut self,
-        out: &mut W,
-        line: u64,
-        figures: Figures,
-    ) -> io::Result<()> {
-        match Rule::made_of(&figures) {
-            Ok(rule) => {
-                self.rule = Some(rule);
-                let unit = Price(rule.unit());
-                let levels = rule.levels();
-                writeln!(out, "{line}: rule unit {unit} levels {levels}")
-            }
-            Err(fault) => {
-                self.rule = None;
-                print_refusal(out, line, fault.code(), None)
-            }
-        }
+        line: &mut Line<'_, W>,
+        rule: Result<Rule, RuleFault>,
+    ) -> Result<(), NoAnswer> {
+        self.rule = rule.ok();
+        let rule = rule?;
+        let unit = Price(rule.unit());
+        let levels = rule.levels();
+        Ok(line.tell(format_args!("rule unit {unit} levels {levels}"))?)
     }
 
     // A level past a byte is past every rule's last.
     pub(super) fn tell_offset<W: Write>(
         &self,
-        out: &mut W,
-        line: u64,
+        line: &mut Line<'_, W>,
         level: u32,
         price: u32,
-    ) -> io::Result<()> {
-        let Some(rule) = self.rule else {
-            return writeln!(out, "{line}: error: expected a rule before this call");
-        };
-        match rule.offset(u8::try_from(level).unwrap_or(u8::MAX), price) {
-            Some(offset) => {
-                let offset = Price(offset);
-                writeln!(out, "{line}: offset {offset}")
-            }
-            None => writeln!(out, "{line}: offset none"),
-        }
+    ) -> Result<(), NoAnswer> {
+        let level = u8::try_from(level).unwrap_or(u8::MAX);
+        let offset = OrNone(self.rule_in_use()?.offset(level, price).map(Price));
+        Ok(line.tell(format_args!("offset {offset}"))?)
     }
 }

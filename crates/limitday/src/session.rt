@@ -1,42 +1,28 @@
 // What a script has made so far, and the answer to each of its lines.
-use super::calls::{Call, Verb};
-use super::day_calls::{AnyDay, Opening};
-use super::kept_calls::KeptCalls;
-use super::pair_calls::KeptPair;
-use super::reading::read_call;
+use super::calls::{Call, named};
+use super::day_calls::Opened;
+use super::line::{Line, NoAnswer};
+use super::pair_calls::{KeptPair, none_kept};
+use super::reading::{Words, read_call};
 use super::roster_calls::{MOST_PLACES, Rosters};
 use super::rule_calls::Rule;
+use super::tape_calls::Started;
 use reference::finding::Reference;
 use std::alloc::{AllocError, Global};
 use std::io;
 use std::io::Write;
 use std::str::from_utf8;
-use tape::writer::End;
-use words::Refusal;
 
 #[derive(Drop)]
 pub struct Session {
     pub(super) heap: Global,
     pub(super) tape: Option<Vec<u8>>,
-    pub(super) buffer: Vec<u8>,
-    pub(super) end: Option<End>,
+    pub(super) started: Option<Started>,
     pub(super) reference: Option<Reference>,
     pub(super) rule: Option<Rule>,
     pub(super) rosters: Rosters,
-    pub(super) day: Option<AnyDay>,
-    pub(super) opening: Option<Opening>,
-    pub(super) calls: KeptCalls,
+    pub(super) opened: Option<Opened>,
     pub(super) kept: KeptPair,
-}
-
-pub(super) fn print_refusal<W: Write>(
-    out: &mut W,
-    line: u64,
-    code: u8,
-    place: Option<usize>,
-) -> io::Result<()> {
-    let refusal = Refusal { code, place };
-    writeln!(out, "{line}: {refusal}")
 }
 
 impl Session {
@@ -44,76 +30,81 @@ impl Session {
         Ok(Session {
             heap,
             tape: None,
-            buffer: Vec::new(heap),
-            end: None,
+            started: None,
             reference: None,
             rule: None,
             rosters: Rosters::new(heap, MOST_PLACES, MOST_PLACES)?,
-            day: None,
-            opening: None,
-            calls: KeptCalls::new(heap),
-            kept: KeptPair::new(),
+            opened: None,
+            kept: none_kept(),
         })
     }
 
     fn answer<W: Write>(
         &mut self,
         rt: &HostRuntime,
-        out: &mut W,
-        line: u64,
+        line: &mut Line<'_, W>,
         call: Call<'_>,
-    ) -> io::Result<()> {
+    ) -> Result<(), NoAnswer> {
         match call {
-            Call::Tape(bytes) => self.take_tape(out, line, bytes),
-            Call::TapeFile(path) => self.take_file(rt, out, line, path),
-            Call::Records => self.list_records(out, line),
-            Call::Start(capacity) => self.start(out, line, capacity),
-            Call::Write(draft) => self.write(out, line, draft),
-            Call::Written => self.finish(out, line),
-            Call::Window { close, windows } => self.cut(out, line, close, windows),
-            Call::Reference(question) => self.find(out, line, question),
-            Call::Rule(figures) => self.make_rule(out, line, figures),
-            Call::Offset { level, price } => self.tell_offset(out, line, level, price),
-            Call::Places { months, series } => self.lay_out(out, line, months, series),
-            Call::List(change) => self.change_listings(out, line, change),
-            Call::Open(start) => self.open_day(out, line, start),
-            Call::Ask(timed) => self.ask(out, line, timed),
-            Call::Replay(time) => self.replay(out, line, time),
-            Call::Keep(seat) => self.keep(out, line, seat),
-            Call::Pair(question, further) => self.pair(out, line, question, further),
+            Call::Tape(bytes) => self.take_tape(line, bytes),
+            Call::TapeFile(path) => self.take_file(rt, line, path),
+            Call::Records => self.list_records(line),
+            Call::Start(capacity) => self.start(line, capacity),
+            Call::Write(record) => self.write(line, record),
+            Call::Written => self.finish(line),
+            Call::Window { close, windows } => self.cut(line, close, windows),
+            Call::Reference(request) => self.find(line, request),
+            Call::Rule(rule) => self.use_rule(line, rule),
+            Call::Offset { level, price } => self.tell_offset(line, level, price),
+            Call::Places { months, series } => self.lay_out(line, months, series),
+            Call::List(change, listed) => self.change_listings(line, change, listed),
+            Call::Open(price) => self.open_day(line, price),
+            Call::Ask(timed) => self.ask(line, timed),
+            Call::Replay(time) => self.replay(line, time),
+            Call::Keep(seat) => self.keep(line, seat),
+            Call::Pair(request, further) => self.pair(line, request, further),
         }
+    }
+
+    // A blank line and a comment have no answer.
+    fn play<W: Write>(
+        &mut self,
+        rt: &HostRuntime,
+        line: &mut Line<'_, W>,
+        bytes: &[u8],
+    ) -> Result<(), NoAnswer> {
+        let text = from_utf8(bytes).map_err(|_| NoAnswer::Expected("text in UTF-8"))?;
+        let mut rest = text.split_whitespace();
+        let Some(first) = rest.next().filter(|first| !first.starts_with('#')) else {
+            return Ok(());
+        };
+        let (verb, form) = named(first).ok_or(NoAnswer::Expected(
+            "a call that limitday --help lists",
+        ))?;
+        let mut symbol = Vec::new(self.heap);
+        let words = Words {
+            heap: self.heap,
+            rest,
+        };
+        let call = read_call(words, verb, &mut symbol).map_err(|fault| fault.expecting(form))?;
+        self.answer(rt, line, call)
     }
 }
 
-// Answers one line of a script. A blank line and a comment have no answer.
+// Answers one line of a script.
 pub fn play_line<W: Write>(
     rt: &HostRuntime,
-    out: &mut W,
     session: &mut Session,
-    line: u64,
+    line: &mut Line<'_, W>,
     bytes: &[u8],
 ) -> io::Result<()> {
-    let Ok(text) = from_utf8(bytes) else {
-        return writeln!(out, "{line}: error: expected text in UTF-8");
-    };
-    let mut words = text.split_whitespace();
-    let Some(first) = words.next() else {
-        return Ok(());
-    };
-    if first.starts_with('#') {
-        return Ok(());
-    }
-    let Some(verb) = Verb::named(first) else {
-        return writeln!(
-            out,
-            "{line}: error: expected a call that limitday --help lists"
-        );
-    };
-    match read_call(rt.alloc(), verb, &mut words)? {
-        Some(call) => session.answer(rt, out, line, call),
-        None => {
-            let form = verb.form();
-            writeln!(out, "{line}: error: expected {form}")
+    match session.play(rt, line, bytes) {
+        Ok(()) => Ok(()),
+        Err(NoAnswer::Expected(what)) => line.tell(format_args!("error: expected {what}")),
+        Err(NoAnswer::Before(what)) => {
+            line.tell(format_args!("error: expected {what} before this call"))
         }
+        Err(NoAnswer::Refused(refusal)) => line.tell(refusal),
+        Err(NoAnswer::Io(error)) => Err(error),
     }
 }

@@ -1,11 +1,17 @@
-// How references, views and answers of a day are shown.
+// How records, references, views and answers of a day are shown.
 use super::calls::Asked;
+use super::refusals::Refused;
 use day::View;
 use days::Answer;
 use reference::finding::Reference;
 use std::fmt;
+use tape::reader::Placed;
+use tape::record::Record;
 use watches::Side;
-use words::{Price, Refusal};
+use words::{Price, Symbol};
+
+#[derive(Clone, Copy)]
+pub struct ShownRecord<'a>(pub Placed<'a>);
 
 #[derive(Clone, Copy)]
 pub struct Found(pub Reference);
@@ -13,12 +19,8 @@ pub struct Found(pub Reference);
 #[derive(Clone, Copy)]
 pub struct Seen(pub View);
 
-// The side of the standing mark, and a time, or none.
 #[derive(Clone, Copy)]
-struct Standing(Option<Side>);
-
-#[derive(Clone, Copy)]
-struct End(Option<u32>);
+pub struct OrNone<T>(pub Option<T>);
 
 // An answer, and the word for a call that was accepted.
 #[derive(Clone, Copy)]
@@ -27,13 +29,47 @@ pub struct Told {
     pub word: &'static str,
 }
 
-pub fn accepted_word(asked: Asked<'_>) -> &'static str {
-    match asked {
-        Asked::Mark(_, _) => "accepted",
-        Asked::Tick => "ticked",
-        Asked::Look => "seen",
-        Asked::Future(_, _) => "admitted",
-        Asked::Option { .. } => "admitted",
+impl Asked {
+    // The word for its being accepted.
+    pub fn accepted(&self) -> &'static str {
+        match self {
+            Asked::Mark(_) => "accepted",
+            Asked::Tick => "ticked",
+            Asked::Look => "seen",
+            Asked::Future(_) | Asked::Option(_) => "admitted",
+        }
+    }
+}
+
+impl fmt::Display for ShownRecord<'_> {
+    fn fmt<W: fmt::Write>(&self, f: &mut fmt::Formatter<W>) -> fmt::Result {
+        let place = self.0.place;
+        match self.0.record {
+            Record::Trade {
+                time,
+                price,
+                volume,
+                symbol,
+            } => {
+                let price = Price(price);
+                let symbol = Symbol(symbol);
+                write!(
+                    f,
+                    "record at {place} trade {time} {price} {volume} {symbol}"
+                )
+            }
+            Record::Quote {
+                time,
+                bid,
+                offer,
+                symbol,
+            } => {
+                let bid = Price(bid);
+                let offer = Price(offer);
+                let symbol = Symbol(symbol);
+                write!(f, "record at {place} quote {time} {bid} {offer} {symbol}")
+            }
+        }
     }
 }
 
@@ -46,22 +82,20 @@ impl fmt::Display for Found {
     }
 }
 
-impl fmt::Display for Standing {
+impl<T: fmt::Display> fmt::Display for OrNone<T> {
     fn fmt<W: fmt::Write>(&self, f: &mut fmt::Formatter<W>) -> fmt::Result {
-        match self.0 {
-            Some(Side::Upper) => f.write_str("bid"),
-            Some(Side::Lower) => f.write_str("offered"),
+        match &self.0 {
+            Some(shown) => shown.fmt(f),
             None => f.write_str("none"),
         }
     }
 }
 
-impl fmt::Display for End {
-    fn fmt<W: fmt::Write>(&self, f: &mut fmt::Formatter<W>) -> fmt::Result {
-        match self.0 {
-            Some(time) => write!(f, "{time}"),
-            None => f.write_str("none"),
-        }
+// The word for the mark that stands at a side.
+fn standing_word(side: Side) -> &'static str {
+    match side {
+        Side::Upper => "bid",
+        Side::Lower => "offered",
     }
 }
 
@@ -80,10 +114,10 @@ impl fmt::Display for Seen {
         write_bounds(f, view)?;
         let low = view.lower_level;
         let high = view.upper_level;
-        let mark = Standing(view.standing);
-        let lower_watch = End(view.lower_watch);
-        let upper_watch = End(view.upper_watch);
-        let halt = End(view.halt);
+        let mark = OrNone(view.standing.map(standing_word));
+        let lower_watch = OrNone(view.lower_watch);
+        let upper_watch = OrNone(view.upper_watch);
+        let halt = OrNone(view.halt);
         write!(
             f,
             " levels {low} {high} mark {mark} watches {lower_watch} {upper_watch} halt {halt}"
@@ -94,16 +128,13 @@ impl fmt::Display for Seen {
 impl fmt::Display for Told {
     fn fmt<W: fmt::Write>(&self, f: &mut fmt::Formatter<W>) -> fmt::Result {
         match self.answer {
-            Answer::Accepted => f.write_str(self.word),
-            Answer::Seen(view) => {
+            Ok(None) => f.write_str(self.word),
+            Ok(Some(view)) => {
                 let seen = Seen(view);
                 write!(f, "look {seen}")
             }
-            Answer::Refused(refusal) => {
-                let refusal = Refusal {
-                    code: refusal.code(),
-                    place: None,
-                };
+            Err(fault) => {
+                let refusal = fault.refusal();
                 write!(f, "{refusal}")
             }
         }
