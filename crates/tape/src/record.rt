@@ -131,7 +131,7 @@ impl<'a> Record<'a> {
                 symbol,
             } => {
                 Fields {
-                    kind: RecordKind::Trade,
+                    kind: self.kind(),
                     time,
                     first: price,
                     second: volume,
@@ -145,7 +145,7 @@ impl<'a> Record<'a> {
                 symbol,
             } => {
                 Fields {
-                    kind: RecordKind::Quote,
+                    kind: self.kind(),
                     time,
                     first: bid,
                     second: offer,
