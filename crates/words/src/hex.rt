@@ -1,8 +1,8 @@
 // Bytes as text, two hex digits each, and a dash where there are none.
-ghost use Rattle.std.specs.Prelude.{◌≡◌, IfOk, Some, vec_items};
+ghost use Rattle.std.specs.Prelude.{◌≡◌, ◌<◌, IfOk, Some, vec_items};
 ghost use Rattle.std.specs.Option.{option_map};
 ghost use Rattle.words.specs.Forms.{first_pair};
-ghost use Rattle.words.specs.HexText.{bytes_text, hex_byte, hex_value, pair_text, pairs, read_bytes};
+ghost use Rattle.words.specs.HexText.{bytes_text, hex_byte, hex_digit, hex_value, pair_text, pairs, read_bytes};
 ghost use Rattle.words.specs.HexForms.{pairs_by_forms};
 
 use crate::forms::{Form, read_row, write_row};
@@ -39,9 +39,11 @@ impl Form for HexPair {
 
     ghost reads = { pairs_by_forms };
 
-    #[tactic(auto, using(std::proofs::lemmas::Fmt::hex_byte))]
+    #[tactic(auto, using(std::proofs::lemmas::Str::encode_ascii))]
     fn write<W: fmt::Write>(f: &mut fmt::Formatter<W>, byte: u8) -> fmt::Result {
-        write!(f, "{byte:02X}")
+        let high = hex_digit(byte / 16);
+        let low = hex_digit(byte % 16);
+        write!(f, "{high}{low}")
     }
 
     fn read_first(text: &[u8]) -> Option<(u8, &[u8])> {
@@ -49,6 +51,18 @@ impl Form for HexPair {
             return None;
         };
         Some((hex_byte(*high, *low)?, rest))
+    }
+}
+
+// Kept: printed by `{:02X}`, a row of bytes takes twice the time.
+fn hex_digit(value: u8) -> char
+    requires { value < 16 }
+    ensures { result ≡ hex_digit value }
+{
+    if value < 10 {
+        (b'0' + value) as char
+    } else {
+        (b'A' - 10 + value) as char
     }
 }
 

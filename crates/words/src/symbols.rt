@@ -41,13 +41,13 @@ impl Form for SymbolForm {
 
     ghost reads = { symbols_by_forms };
 
-    #[tactic(auto, using(std::proofs::lemmas::Fmt::hex_byte))]
+    #[tactic(auto, using(std::proofs::lemmas::Str::encode_ascii))]
     fn write<W: fmt::Write>(f: &mut fmt::Formatter<W>, byte: u8) -> fmt::Result {
         if is_plain(byte) {
-            f.write_char(byte as char)
-        } else {
-            write!(f, "\\x{byte:02X}")
+            return f.write_char(byte as char);
         }
+        f.write_str("\\x")?;
+        HexPair::write(f, byte)
     }
 
     fn read_first(text: &[u8]) -> Option<(u8, &[u8])> {
