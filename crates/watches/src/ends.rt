@@ -1,6 +1,6 @@
 //! When watches and halts end.
 ghost use Rattle.std.specs.Prelude.{◌≡◌};
-ghost use Rattle.watches.specs.Ends.{end_of, halt_end, is_halted, first_end};
+ghost use Rattle.watches.specs.Ends.{end_of, halt_end, is_halted, earlier, first_end};
 
 use crate::state::{Phase, State, Watch};
 
@@ -35,18 +35,18 @@ impl Phase {
     }
 }
 
+fn earlier_of(a: Option<u32>, b: Option<u32>) -> Option<u32>
+    ensures { result ≡ earlier a b }
+{
+    a.zip(b).map(|(x, y)| x.min(y)).or(a).or(b)
+}
+
 impl State {
     /// The earliest end of all that runs.
     pub(crate) fn earliest_end(self) -> Option<u32>
         ensures { result ≡ first_end self }
     {
-        [
-            self.upper.watch.end(),
-            self.lower.watch.end(),
-            self.phase.end(),
-        ]
-        .into_iter()
-        .flatten()
-        .min()
+        let watches = earlier_of(self.upper.watch.end(), self.lower.watch.end());
+        earlier_of(watches, self.phase.end())
     }
 }
