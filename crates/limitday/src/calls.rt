@@ -83,58 +83,64 @@ pub enum Topic {
     Option,
 }
 
-// Each call's verb, and the form of its line, which begins with its name.
-const FORMS: [(Verb, &str); 24] = [
-    (Verb::Tape, "tape HEX"),
-    (Verb::TapeFile, "tape-file PATH"),
-    (Verb::Records, "records"),
-    (Verb::Start, "start CAPACITY"),
+// Each call's name, its verb, and the form of its line.
+const FORMS: &[(&str, Verb, &str)] = &[
+    ("tape", Verb::Tape, "tape HEX"),
+    ("tape-file", Verb::TapeFile, "tape-file PATH"),
+    ("records", Verb::Records, "records"),
+    ("start", Verb::Start, "start CAPACITY"),
     (
+        "write",
         Verb::Write,
         "write trade TIME PRICE VOLUME SYMBOL or write quote TIME BID OFFER SYMBOL",
     ),
-    (Verb::Written, "written"),
-    (Verb::Window, "window CLOSE W"),
-    (Verb::Reference, "reference SYMBOL CLOSE K"),
+    ("written", Verb::Written, "written"),
+    ("window", Verb::Window, "window CLOSE W"),
+    ("reference", Verb::Reference, "reference SYMBOL CLOSE K"),
     (
+        "rule",
         Verb::Rule,
         "rule daily, rule quarterly C1 .. C20 or rule monthly SETTLEMENT",
     ),
-    (Verb::Offset, "offset LEVEL PRICE"),
-    (Verb::Places, "places M S"),
-    (Verb::Month(Change::Enter), "month CODE [last]"),
-    (Verb::Month(Change::Remove), "drop-month CODE"),
+    ("offset", Verb::Offset, "offset LEVEL PRICE"),
+    ("places", Verb::Places, "places M S"),
+    ("month", Verb::Month(Change::Enter), "month CODE [last]"),
+    ("drop-month", Verb::Month(Change::Remove), "drop-month CODE"),
     (
+        "series",
         Verb::Series(Change::Enter),
         "series CODE STRIKE call|put [last]",
     ),
     (
+        "drop-series",
         Verb::Series(Change::Remove),
         "drop-series CODE STRIKE call|put",
     ),
-    (Verb::Open, "open PRICE or open reference"),
-    (Verb::Ask(Topic::Mark), "mark T bid|offered|clear PRICE"),
-    (Verb::Ask(Topic::Tick), "tick T"),
-    (Verb::Ask(Topic::Look), "look T"),
-    (Verb::Replay, "replay T"),
-    (Verb::Ask(Topic::Future), "future T CODE PRICE"),
+    ("open", Verb::Open, "open PRICE or open reference"),
     (
+        "mark",
+        Verb::Ask(Topic::Mark),
+        "mark T bid|offered|clear PRICE",
+    ),
+    ("tick", Verb::Ask(Topic::Tick), "tick T"),
+    ("look", Verb::Ask(Topic::Look), "look T"),
+    ("replay", Verb::Replay, "replay T"),
+    ("future", Verb::Ask(Topic::Future), "future T CODE PRICE"),
+    (
+        "option",
         Verb::Ask(Topic::Option),
         "option T CODE STRIKE call|put PRICE",
     ),
-    (Verb::Keep, "keep first|second"),
-    (Verb::Pair, "pair SYMBOL CLOSE K CALL"),
+    ("keep", Verb::Keep, "keep first|second"),
+    ("pair", Verb::Pair, "pair SYMBOL CLOSE K CALL"),
 ];
 
 // The call of that name, and the form of its line.
 pub fn named(word: &str) -> Option<(Verb, &'static str)> {
     FORMS
         .iter()
-        .find(|(_, form)| {
-            form.strip_prefix(word)
-                .is_some_and(|rest| rest.is_empty() || rest.starts_with(' '))
-        })
-        .copied()
+        .find(|(name, _, _)| *name == word)
+        .map(|(_, verb, form)| (*verb, *form))
 }
 
 impl fmt::Display for Change {

@@ -1,6 +1,6 @@
 // The day: opening, marks, ticks, looks and orders.
 use super::calls::{Asked, Timed};
-use super::kept_calls::{KeptCall, all_calls};
+use super::kept_calls::KeptCalls;
 use super::line::{Line, NoAnswer};
 use super::rule_calls::{Rule, by_rule};
 use super::session::Session;
@@ -38,7 +38,7 @@ pub struct Opened {
     day: AnyDay,
     rule: Rule,
     price: u32,
-    pub(super) calls: Vec<KeptCall>,
+    pub(super) calls: KeptCalls,
 }
 
 impl Opened {
@@ -69,7 +69,7 @@ impl Session {
             day,
             rule,
             price,
-            calls: Vec::new(self.heap),
+            calls: KeptCalls::new(self.heap),
         });
         Ok(line.tell(format_args!("opened at {opened_at}"))?)
     }
@@ -85,7 +85,7 @@ impl Session {
             .is_order()
             .then(|| self.rosters.snapshot(self.heap))
             .transpose()?;
-        opened.calls.push(KeptCall { timed, shown })?;
+        opened.calls.push(self.heap, timed, shown)?;
         let word = timed.asked.accepted();
         Ok(line.tell(Told { answer, word })?)
     }
@@ -99,7 +99,7 @@ impl Session {
         let opened = self.opened_day()?;
         let asked = Asked::Look;
         let look = Timed { time, asked };
-        let calls = all_calls(self.heap, opened.calls.as_slice())?;
+        let calls = opened.calls.all(self.heap)?;
         let answer = opened.play(calls.as_slice(), &look.call(self.rosters.listings()))?;
         let word = asked.accepted();
         Ok(line.tell(Told { answer, word })?)

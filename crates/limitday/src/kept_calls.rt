@@ -4,6 +4,7 @@ use days::{Action, Call};
 use listings::futures::FuturesMonth;
 use listings::series::OptionSeries;
 use std::alloc::{AllocError, Global};
+use std::mem::replace;
 use std::rc::Rc;
 
 #[derive(Clone, Copy)]
@@ -12,19 +13,16 @@ pub struct Listings<'a> {
     pub series: &'a [OptionSeries],
 }
 
-// The listings as they stood at some line.
-#[derive(Drop)]
+// The listings as they stood at some line. Lines between which a roster did not change share its copy.
+#[derive(Clone, Drop)]
 pub struct Snapshot {
-    months: Vec<FuturesMonth>,
-    series: Vec<OptionSeries>,
+    pub(super) months: Rc<Vec<FuturesMonth>>,
+    pub(super) series: Rc<Vec<OptionSeries>>,
 }
 
 impl Snapshot {
-    pub(super) fn of(heap: Global, listings: Listings<'_>) -> Result<Snapshot, AllocError> {
-        Ok(Snapshot {
-            months: listings.months.to_vec(heap)?,
-            series: listings.series.to_vec(heap)?,
-        })
+    fn is(&self, other: &Snapshot) -> bool {
+        Rc::ptr_eq(&self.months, &other.months) && Rc::ptr_eq(&self.series, &other.series)
     }
 
     fn listings(&self) -> Listings<'_> {
@@ -67,11 +65,22 @@ impl Timed {
     }
 }
 
-// Only an order looks at the listings, so no other call keeps them.
+// A call, and the place of the snapshot that it was shown. Only an order looks at it.
+#[derive(Clone, Copy)]
+struct KeptCall {
+    timed: Timed,
+    shown: usize,
+}
+
+// How many calls a full part has.
+const PART: usize = 64;
+
+// Calls in order, and what the orders among them were shown. A copy shares the full parts and the listings.
 #[derive(Clone, Drop)]
-pub struct KeptCall {
-    pub(super) timed: Timed,
-    pub(super) shown: Option<Rc<Snapshot>>,
+pub struct KeptCalls {
+    parts: Vec<Rc<Vec<KeptCall>>>,
+    last: Vec<KeptCall>,
+    snapshots: Vec<Snapshot>,
 }
 
 const NO_LISTINGS: Listings<'static> = Listings {
@@ -79,14 +88,53 @@ const NO_LISTINGS: Listings<'static> = Listings {
     series: &[],
 };
 
-impl KeptCall {
-    fn call(&self) -> Call<'_> {
-        let shown = self.shown.as_ref();
-        self.timed
+impl KeptCalls {
+    pub(super) fn new(heap: Global) -> KeptCalls {
+        KeptCalls {
+            parts: Vec::new(heap),
+            last: Vec::new(heap),
+            snapshots: Vec::new(heap),
+        }
+    }
+
+    pub(super) fn len(&self) -> usize {
+        let full = self.parts.len().saturating_mul(PART);
+        full.saturating_add(self.last.len())
+    }
+
+    // Keeps a call with what it was shown, if it is an order.
+    pub(super) fn push(
+        &mut self,
+        heap: Global,
+        timed: Timed,
+        shown: Option<Snapshot>,
+    ) -> Result<(), AllocError> {
+        if let Some(snapshot) = shown {
+            if !self.snapshots.last().is_some_and(|last| last.is(&snapshot)) {
+                self.snapshots.push(snapshot)?;
+            }
+        }
+        let shown = self.snapshots.len().saturating_sub(1);
+        self.last.push(KeptCall { timed, shown })?;
+        if self.last.len() >= PART {
+            let part = replace(&mut self.last, Vec::new(heap));
+            self.parts.push(Rc::new(heap, part)?)?;
+        }
+        Ok(())
+    }
+
+    fn call(&self, kept: KeptCall) -> Call<'_> {
+        let shown = self.snapshots.get(kept.shown);
+        kept.timed
             .call(shown.map_or(NO_LISTINGS, |shown| shown.listings()))
     }
-}
 
-pub fn all_calls(heap: Global, kept: &[KeptCall]) -> Result<Vec<Call<'_>>, AllocError> {
-    kept.iter().map(|call| call.call()).collect(heap)
+    pub(super) fn all(&self, heap: Global) -> Result<Vec<Call<'_>>, AllocError> {
+        self.parts
+            .iter()
+            .flat_map(|part| part.iter())
+            .chain(self.last.iter())
+            .map(|kept| self.call(*kept))
+            .collect(heap)
+    }
 }

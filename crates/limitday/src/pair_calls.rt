@@ -1,6 +1,6 @@
 // Two days of a pair: kept, and run with one further call.
 use super::calls::{Seat, Timed};
-use super::kept_calls::{KeptCall, all_calls};
+use super::kept_calls::KeptCalls;
 use super::line::{Line, NoAnswer};
 use super::refusals::Refused;
 use super::rule_calls::{Rule, by_rule};
@@ -18,7 +18,7 @@ use words::Price;
 #[derive(Drop)]
 pub struct KeptDay {
     tape: Vec<u8>,
-    calls: Vec<KeptCall>,
+    calls: KeptCalls,
 }
 
 // The two days of a pair as far as they are kept.
@@ -45,8 +45,8 @@ fn run_days<'a>(
     second: &'a KeptDay,
     next: Call<'a>,
 ) -> Result<Pair<Result<DayRun, RunFault>>, AllocError> {
-    let first_calls = all_calls(heap, first.calls.as_slice())?;
-    let second_calls = all_calls(heap, second.calls.as_slice())?;
+    let first_calls = first.calls.all(heap)?;
+    let second_calls = second.calls.all(heap)?;
     let first = plan_of(first.tape.as_slice(), first_calls.as_slice(), next);
     let second = plan_of(second.tape.as_slice(), second_calls.as_slice(), next);
     Ok(by_rule!(Rule, rule, rule => pair_days(rule, request, &first, &second)))
@@ -117,8 +117,10 @@ impl Session {
         line: &mut Line<'_, W>,
         seat: Seat,
     ) -> Result<(), NoAnswer> {
-        let tape = self.current_tape()?.to_vec(self.heap)?;
-        let calls = self.opened_day()?.calls.clone()?;
+        let tape = self.current_tape()?;
+        let opened = self.opened_day()?;
+        let tape = tape.to_vec(self.heap)?;
+        let calls = opened.calls.clone()?;
         let len = calls.len();
         let day = Some(KeptDay { tape, calls });
         match seat {

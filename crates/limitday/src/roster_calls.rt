@@ -34,11 +34,17 @@ const NO_CONTRACT: OptionContract = OptionContract {
 struct Kept<L> {
     places: Vec<L>,
     len: usize,
+    // The entries as they stand, once an order was shown them.
+    shown: Option<Rc<Vec<L>>>,
 }
 
 impl<L: Listing + Drop> Kept<L> {
     fn new(places: Vec<L>) -> Kept<L> {
-        Kept { places, len: 0 }
+        Kept {
+            places,
+            len: 0,
+            shown: None,
+        }
     }
 
     // How many stand then.
@@ -50,7 +56,17 @@ impl<L: Listing + Drop> Kept<L> {
         }
         let len = roster.len();
         self.len = len;
+        self.shown = None;
         Ok(len)
+    }
+
+    fn shown(&mut self, heap: Global) -> Result<Rc<Vec<L>>, AllocError> {
+        let shown = match self.shown.take() {
+            Some(shown) => shown,
+            None => Rc::new(heap, self.entries().to_vec(heap)?)?,
+        };
+        self.shown = Some(shown.clone()?);
+        Ok(shown)
     }
 
     fn entries(&self) -> &[L] {
@@ -63,8 +79,6 @@ impl<L: Listing + Drop> Kept<L> {
 pub struct Rosters {
     months: Kept<FuturesMonth>,
     series: Kept<OptionSeries>,
-    // Of the listings as they stand, once an order was shown them.
-    snapshot: Option<Rc<Snapshot>>,
 }
 
 impl Rosters {
@@ -74,7 +88,6 @@ impl Rosters {
         Ok(Rosters {
             months: Kept::new(vec![in heap; month; months as usize]?),
             series: Kept::new(vec![in heap; one_series; series as usize]?),
-            snapshot: None,
         })
     }
 
@@ -85,22 +98,18 @@ impl Rosters {
         }
     }
 
-    pub(super) fn snapshot(&mut self, heap: Global) -> Result<Rc<Snapshot>, AllocError> {
-        let snapshot = match self.snapshot.take() {
-            Some(snapshot) => snapshot,
-            None => Rc::new(heap, Snapshot::of(heap, self.listings())?)?,
-        };
-        self.snapshot = Some(snapshot.clone()?);
-        Ok(snapshot)
+    pub(super) fn snapshot(&mut self, heap: Global) -> Result<Snapshot, AllocError> {
+        Ok(Snapshot {
+            months: self.months.shown(heap)?,
+            series: self.series.shown(heap)?,
+        })
     }
 
     fn change(&mut self, change: Change, listed: Listed) -> Result<usize, RosterFault> {
-        let len = match listed {
-            Listed::Month(month) => self.months.change(change, month)?,
-            Listed::Series(series) => self.series.change(change, series)?,
-        };
-        self.snapshot = None;
-        Ok(len)
+        match listed {
+            Listed::Month(month) => self.months.change(change, month),
+            Listed::Series(series) => self.series.change(change, series),
+        }
     }
 }
 
