@@ -129,12 +129,19 @@ impl KeptCalls {
             .call(shown.map_or(NO_LISTINGS, |shown| shown.listings()))
     }
 
+    fn add<'a>(&'a self, calls: &mut Vec<Call<'a>>, part: &[KeptCall]) -> Result<(), AllocError> {
+        for kept in part {
+            calls.push(self.call(*kept))?;
+        }
+        Ok(())
+    }
+
     pub(super) fn all(&self, heap: Global) -> Result<Vec<Call<'_>>, AllocError> {
-        self.parts
-            .iter()
-            .flat_map(|part| part.iter())
-            .chain(self.last.iter())
-            .map(|kept| self.call(*kept))
-            .collect(heap)
+        let mut calls = Vec::with_capacity(heap, self.len())?;
+        for part in self.parts.as_slice() {
+            self.add(&mut calls, part.as_slice())?;
+        }
+        self.add(&mut calls, self.last.as_slice())?;
+        Ok(calls)
     }
 }

@@ -14,7 +14,7 @@ use std::io;
 use std::io::Write;
 use words::Price;
 
-// A tape and the calls of a day, in copies of their own.
+// A tape and the calls of a day, which later calls do not change.
 #[derive(Drop)]
 pub struct KeptDay {
     tape: Vec<u8>,

@@ -69,6 +69,13 @@ impl<L: Listing + Drop> Kept<L> {
         Ok(shown)
     }
 
+    fn shown_empty(&self) -> Result<Option<Rc<Vec<L>>>, AllocError> {
+        match &self.shown {
+            Some(shown) if shown.is_empty() => Ok(Some(shown.clone()?)),
+            _ => Ok(None),
+        }
+    }
+
     fn entries(&self) -> &[L] {
         let places = self.places.as_slice();
         &places[0..self.len.min(places.len())]
@@ -89,6 +96,13 @@ impl Rosters {
             months: Kept::new(vec![in heap; month; months as usize]?),
             series: Kept::new(vec![in heap; one_series; series as usize]?),
         })
+    }
+
+    // The same rosters, still empty: where the old ones were shown empty, that copy serves for them too.
+    fn shown_like(mut self, old: &Rosters) -> Result<Rosters, AllocError> {
+        self.months.shown = old.months.shown_empty()?;
+        self.series.shown = old.series.shown_empty()?;
+        Ok(self)
     }
 
     pub(super) fn listings(&self) -> Listings<'_> {
@@ -133,7 +147,8 @@ impl Session {
     ) -> Result<(), NoAnswer> {
         let months = months.min(MOST_PLACES);
         let series = series.min(MOST_PLACES);
-        self.rosters = Rosters::new(self.heap, months, series)?;
+        let laid = Rosters::new(self.heap, months, series)?;
+        self.rosters = laid.shown_like(&self.rosters)?;
         Ok(line.tell(format_args!("places {months} {series}"))?)
     }
 }
