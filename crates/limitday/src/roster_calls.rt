@@ -36,6 +36,8 @@ struct Kept<L> {
     len: usize,
     // The entries as they stand, once an order was shown them.
     shown: Option<Rc<Vec<L>>>,
+    // No entries, once an order was shown that: one copy serves whenever there are none.
+    shown_none: Option<Rc<Vec<L>>>,
 }
 
 impl<L: Listing + Drop> Kept<L> {
@@ -44,6 +46,7 @@ impl<L: Listing + Drop> Kept<L> {
             places,
             len: 0,
             shown: None,
+            shown_none: None,
         }
     }
 
@@ -60,20 +63,22 @@ impl<L: Listing + Drop> Kept<L> {
         Ok(len)
     }
 
+    // Where the copy of the entries is kept.
+    fn copy(&mut self) -> &mut Option<Rc<Vec<L>>> {
+        if self.len == 0 {
+            &mut self.shown_none
+        } else {
+            &mut self.shown
+        }
+    }
+
     fn shown(&mut self, heap: Global) -> Result<Rc<Vec<L>>, AllocError> {
-        let shown = match self.shown.take() {
+        let shown = match self.copy().take() {
             Some(shown) => shown,
             None => Rc::new(heap, self.entries().to_vec(heap)?)?,
         };
-        self.shown = Some(shown.clone()?);
+        *self.copy() = Some(shown.clone()?);
         Ok(shown)
-    }
-
-    fn shown_empty(&self) -> Result<Option<Rc<Vec<L>>>, AllocError> {
-        match &self.shown {
-            Some(shown) if shown.is_empty() => Ok(Some(shown.clone()?)),
-            _ => Ok(None),
-        }
     }
 
     fn entries(&self) -> &[L] {
@@ -98,11 +103,13 @@ impl Rosters {
         })
     }
 
-    // The same rosters, still empty: where the old ones were shown empty, that copy serves for them too.
-    fn shown_like(mut self, old: &Rosters) -> Result<Rosters, AllocError> {
-        self.months.shown = old.months.shown_empty()?;
-        self.series.shown = old.series.shown_empty()?;
-        Ok(self)
+    // Fresh, empty rosters in place of these.
+    fn lay_out(&mut self, heap: Global, months: u32, series: u32) -> Result<(), AllocError> {
+        let mut laid = Rosters::new(heap, months, series)?;
+        laid.months.shown_none = self.months.shown_none.take();
+        laid.series.shown_none = self.series.shown_none.take();
+        *self = laid;
+        Ok(())
     }
 
     pub(super) fn listings(&self) -> Listings<'_> {
@@ -147,8 +154,7 @@ impl Session {
     ) -> Result<(), NoAnswer> {
         let months = months.min(MOST_PLACES);
         let series = series.min(MOST_PLACES);
-        let laid = Rosters::new(self.heap, months, series)?;
-        self.rosters = laid.shown_like(&self.rosters)?;
+        self.rosters.lay_out(self.heap, months, series)?;
         Ok(line.tell(format_args!("places {months} {series}"))?)
     }
 }

@@ -43,12 +43,12 @@ impl Phase {
 }
 
 impl State {
-    /// The watch of the side whose mark stands.
-    fn watch_of_mark(self) -> Watch
-        ensures { result ≡ watched self self.standing }
+    /// Whether the watch of the side whose mark stands is over.
+    fn is_mark_over(self, moment: u32) -> bool
+        ensures { result ≡ over moment (watched self self.standing) }
     {
         self.standing
-            .map_or(Watch::Idle, |side| self.band(side).watch)
+            .is_some_and(|side| self.band(side).watch.is_over(moment))
     }
 }
 
@@ -66,7 +66,7 @@ impl Watches {
             phase: state.phase.resumed(moment),
             standing: state.standing,
         };
-        if state.watch_of_mark().is_over(moment) {
+        if state.is_mark_over(moment) {
             day.phase = Phase::Halted { end: moment + SPAN };
             day.standing = None;
         }
