@@ -1,19 +1,14 @@
 -- A price's text, split at its point.
-use Rattle.std.proofs.Common.{◌≡◌, ℕ, ◌/◌, ◌%◌, ◌-◌, ◌^◌, ◌<◌, false, List, [], ◌++◌, length, Some, None, codes, decimal, Option, Bor, ap, sym, ◌∙◌, inl, inr, arith}
+use Rattle.std.proofs.Common.{◌≡◌, ℕ, ◌/◌, ◌%◌, ◌-◌, ◌^◌, ◌<◌, false, List, [], ◌++◌, length, Some, None, decimal, Bor, inl, inr, arith}
 use Rattle.std.proofs.lemmas.Bool.{cases_lt}
 use Rattle.std.proofs.lemmas.Bool.Decides.{nat_tests}
 use Rattle.std.proofs.lemmas.Fmt.{decimal_digit, decimal_step}
 use Rattle.std.proofs.lemmas.Str.Pattern.{IsSplitOnceResult}
 use Rattle.std.specs.Fmt.{char_count, format_spec, padded_integral}
-use Rattle.std.specs.Option.{unwrap_or}
 use Rattle.words.specs.Numeral.{number, number_below}
 use Rattle.words.specs.PriceText.{decimals, hundredths, price_of, read_price}
 use Rattle.words.proofs.Cuts.{cut}
 use Rattle.words.proofs.Numerals.{short}
-
-capped : (points : List ℕ) (h : Option ℕ) → price_of (number points) h ≡ price_of (number_below (2 ^ 32) points) h
-capped points None = grind (arith, nat_tests)
-capped points (Some h) = grind (arith, nat_tests)
 
 -- no more than two digits fit 32 bits
 pub two_digits : (ds : List ℕ) → number_below (2 ^ 32) ds ≡ None → decimals ds ≡ None
@@ -22,22 +17,16 @@ two_digits ds e = grind (arith, nat_tests, short ds)
 pub one_digit : (ds : List ℕ) (n : ℕ) → number_below (2 ^ 32) ds ≡ Some n → length ds ≡ 1 → n < 100
 one_digit ds n e one = grind (arith, nat_tests, short ds)
 
--- what stands before the point and after it, and where there is none, the word and a 0
-pub in_parts : (word : List ℕ) (r : Option (Bor (List ℕ) × Bor (List ℕ))) (p d : Bor (List ℕ) × Bor (List ℕ)) → IsSplitOnceResult 46 word r → p ≡ unwrap_or r d → d.0.now ≡ word → d.1.now ≡ codes "0" → read_price word ≡ price_of (number_below (2 ^ 32) p.0.now) (decimals p.1.now)
-in_parts word None p d h e points zero =
-    let parts = cut 46 word None h (omega arith) in
-    (λ i. price_of (number (parts.0 i)) (hundredths (parts.1 i))) ∙ capped word (Some 0)
-    ∙ (λ i. price_of (number_below (2 ^ 32) (points-is i)) (decimals (zero-is i)))
-  where
-    points-is : word ≡ p.0.now
-    points-is = sym points ∙ sym (ap (λ (x : Bor (List ℕ) × Bor (List ℕ)). x.0.now) e)
-
-    zero-is : codes "0" ≡ p.1.now
-    zero-is = sym zero ∙ sym (ap (λ (x : Bor (List ℕ) × Bor (List ℕ)). x.1.now) e)
-in_parts word (Some x) p d h e points zero =
+-- a word with a point, and one with none
+pub pointed : (word : List ℕ) (x : Bor (List ℕ) × Bor (List ℕ)) → IsSplitOnceResult 46 word (Some x) → read_price word ≡ price_of (number x.0.now) (decimals x.1.now)
+pointed word x h =
     let parts = cut 46 word (Some x) h (omega arith) in
-    (λ i. price_of (number (parts.0 i)) (hundredths (parts.1 i))) ∙ capped x.0.now (decimals x.1.now)
-    ∙ ap (λ (y : Bor (List ℕ) × Bor (List ℕ)). price_of (number_below (2 ^ 32) y.0.now) (decimals y.1.now)) (sym e)
+    (λ i. price_of (number (parts.0 i)) (hundredths (parts.1 i)))
+
+pub unpointed : (word : List ℕ) → IsSplitOnceResult 46 word None → read_price word ≡ price_of (number word) (Some 0)
+unpointed word h =
+    let parts = cut 46 word None h (omega arith) in
+    (λ i. price_of (number (parts.0 i)) (hundredths (parts.1 i)))
 
 -- what `{:02}` writes of a number below a hundred
 pub two_decimals : (n : ℕ) → n < 100 → padded_integral (format_spec 32 0 4 2 (2 ^ 64 - 1)) false [] (decimal n) ≡ decimal (n / 10) ++ decimal (n % 10)

@@ -2,6 +2,7 @@
 ghost use Rattle.std.specs.Prelude.{◌≡◌, Some};
 ghost use Rattle.std.specs.Option.{option_map};
 ghost use Rattle.std.specs.Result.{result_ok};
+ghost use Rattle.words.specs.Numeral.{number};
 ghost use Rattle.words.specs.PriceText.{decimals, price_of, price_text, read_price};
 
 use crate::read_number;
@@ -40,10 +41,18 @@ impl FromStr for Price {
 fn read_price(word: &str) -> Option<u32>
     ensures { result ≡ read_price word.now }
 {
-    let (points, decimals) = word.split_once('.').unwrap_or((word, "0"));
+    match word.split_once('.') {
+        Some((points, decimals)) => price_of(points, read_decimals(decimals)?),
+        None => price_of(word, 0),
+    }
+}
+
+fn price_of(points: &str, hundredths: u32) -> Option<u32>
+    ensures { result ≡ price_of (number points.now) (Some hundredths) }
+{
     read_number(points)?
         .checked_mul(100)?
-        .checked_add(read_decimals(decimals)?)
+        .checked_add(hundredths)
 }
 
 // One or two decimals, in hundredths.
