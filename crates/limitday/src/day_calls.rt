@@ -85,7 +85,7 @@ impl Session {
             .is_order()
             .then(|| self.rosters.snapshot(self.heap))
             .transpose()?;
-        opened.calls.push(self.heap, timed, shown)?;
+        opened.calls.push(timed, shown)?;
         let word = timed.asked.accepted();
         Ok(line.tell(Told { answer, word })?)
     }

@@ -72,10 +72,10 @@ struct KeptCall {
     shown: usize,
 }
 
-// How many calls a full part has.
+// The fewest calls of a part.
 const PART: usize = 64;
 
-// Calls in order, and what the orders among them were shown. A copy shares the full parts and the listings.
+// Calls in order, and what the orders among them were shown. Copies share the parts and the listings.
 #[derive(Clone, Drop)]
 pub struct KeptCalls {
     parts: Vec<Rc<Vec<KeptCall>>>,
@@ -98,17 +98,13 @@ impl KeptCalls {
     }
 
     pub(super) fn len(&self) -> usize {
-        let full = self.parts.len().saturating_mul(PART);
-        full.saturating_add(self.last.len())
+        self.parts.iter().fold(self.last.len(), |len, part| {
+            len.saturating_add(part.len())
+        })
     }
 
     // Keeps a call with what it was shown, if it is an order.
-    pub(super) fn push(
-        &mut self,
-        heap: Global,
-        timed: Timed,
-        shown: Option<Snapshot>,
-    ) -> Result<(), AllocError> {
+    pub(super) fn push(&mut self, timed: Timed, shown: Option<Snapshot>) -> Result<(), AllocError> {
         if let Some(snapshot) = shown {
             if !self.snapshots.last().is_some_and(|last| last.is(&snapshot)) {
                 self.snapshots.push(snapshot)?;
@@ -116,11 +112,16 @@ impl KeptCalls {
         }
         let shown = self.snapshots.len().saturating_sub(1);
         self.last.push(KeptCall { timed, shown })?;
+        Ok(())
+    }
+
+    // A copy, which shares the parts. The calls behind the last part become one by it, unless they are few.
+    pub(super) fn copy(&mut self, heap: Global) -> Result<KeptCalls, AllocError> {
         if self.last.len() >= PART {
             let part = replace(&mut self.last, Vec::new(heap));
             self.parts.push(Rc::new(heap, part)?)?;
         }
-        Ok(())
+        self.clone()
     }
 
     fn call(&self, kept: KeptCall) -> Call<'_> {

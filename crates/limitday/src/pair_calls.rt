@@ -118,9 +118,10 @@ impl Session {
         seat: Seat,
     ) -> Result<(), NoAnswer> {
         let tape = self.current_tape()?;
-        let opened = self.opened_day()?;
+        self.opened_day()?;
         let tape = tape.to_vec(self.heap)?;
-        let calls = opened.calls.clone()?;
+        let opened = self.opened.as_mut().ok_or(NoAnswer::Before("a day"))?;
+        let calls = opened.calls.copy(self.heap)?;
         let len = calls.len();
         let day = Some(KeptDay { tape, calls });
         match seat {

@@ -64,7 +64,7 @@ impl<L: Listing + Drop> Kept<L> {
     }
 
     // Where the copy of the entries is kept.
-    fn copy(&mut self) -> &mut Option<Rc<Vec<L>>> {
+    fn slot(&mut self) -> &mut Option<Rc<Vec<L>>> {
         if self.len == 0 {
             &mut self.shown_none
         } else {
@@ -73,11 +73,11 @@ impl<L: Listing + Drop> Kept<L> {
     }
 
     fn shown(&mut self, heap: Global) -> Result<Rc<Vec<L>>, AllocError> {
-        let shown = match self.copy().take() {
+        let shown = match self.slot().take() {
             Some(shown) => shown,
             None => Rc::new(heap, self.entries().to_vec(heap)?)?,
         };
-        *self.copy() = Some(shown.clone()?);
+        *self.slot() = Some(shown.clone()?);
         Ok(shown)
     }
 
@@ -103,7 +103,7 @@ impl Rosters {
         })
     }
 
-    // Fresh, empty rosters in place of these.
+    // Fresh, empty rosters in place of these, shown by the same copy while they are empty.
     fn lay_out(&mut self, heap: Global, months: u32, series: u32) -> Result<(), AllocError> {
         let mut laid = Rosters::new(heap, months, series)?;
         laid.months.shown_none = self.months.shown_none.take();
