@@ -115,7 +115,7 @@ impl KeptCalls {
         Ok(())
     }
 
-    // A copy, which shares the parts. The calls behind the last part become one by it, unless they are few.
+    // A copy, which shares the parts. The calls behind the last part are made a part first, unless they are few.
     pub(super) fn copy(&mut self, heap: Global) -> Result<KeptCalls, AllocError> {
         if self.last.len() >= PART {
             let part = replace(&mut self.last, Vec::new(heap));
